@@ -1,10 +1,12 @@
 #!/usr/bin/env python3
 """Makes docs/CLAUSES.md, the index of what public functions promise: `clauses.py [--check]`.
 
-A line is a public function of a crate that has a contract: what it gives, by the first sentence over it; the names of
-its clauses, `-` being the one that needs none; and its wrong bodies, which are the edits in must-fail/ by name and
-those in wrong/ by number. A program's functions are all public here. Crates of tests and benches are left out. With
---check nothing is written, and the status is 1 where the page is not the one that is made.
+A line is a public function of a crate that has a contract: what it gives, by the first sentence over it; the names of its
+clauses, `-` being the one that needs none; and its wrong bodies, which are the edits in must-fail/ by name and those in wrong/ by
+number. A program's functions are all public here. Crates of tests and benches are left out. With --check nothing is written, and
+the status is 1 where the page is not the one that is made.
+
+Promise: none
 """
 import re
 import sys

@@ -1,5 +1,10 @@
 #!/usr/bin/env python3
-"""Prints how many lines of definitions there are, and how many of them say the five promises."""
+"""Prints how many lines of definitions there are, and how many say the five promises: `definitions.py`.
+
+It is a sentence of docs/PROMISES.md.
+
+Promise: none
+"""
 from lib.places import ROOT
 
 CRATES = ROOT / "crates"

@@ -1,10 +1,12 @@
 #!/usr/bin/env python3
 """Compares the figures that pages show with those that were measured: `figures.py`.
 
-bench/figures.json has what was measured. A comment `<!-- figure: RUN: WHAT, UNIT -->` names one of them. In a row of a table
-with the columns Ours and Ahead it holds for the row; elsewhere for the number in front of it, which is ours. Every row of such a
-table has to name its figure, and a comment that names none is wrong. bench/TABLE.md has to be the page that is made of the last
-run. The last line is 'N checks, M wrong'.
+bench/figures.json has what was measured. A comment `<!-- figure: RUN: WHAT, UNIT -->` names one of them. In a row of a table with
+the columns Ours and Ahead it holds for the row; elsewhere for the number in front of it, which is ours. Every row of such a table
+has to name its figure, and a comment that names none is wrong. bench/TABLE.md has to be the page that is made of the last run.
+The last line is 'N checks, M wrong'.
+
+Promise: none
 """
 import re
 import sys

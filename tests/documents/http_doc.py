@@ -1,13 +1,14 @@
 #!/usr/bin/env python3
 """Plays every example of docs/HTTP.md on the program: `http_doc.py PROGRAM [--told]`.
 
-A `text` block whose first line begins with `$ ` is a session of a shell, as in the README. The blocks `http` and
-`frame` are one run over a new house in a file, each message on a connection of its own. In an `http` block a message
-has its method, its path and its fields in one line, then its body; `20 times` before it sends it so often. In a
-`frame` block it is whole. After `<` comes what the program has to answer: status and body, of a frame the whole
-answer. A long body goes on in indented lines. With `--told` the page is printed with what the program answered. The
-table of refusals has to have the numbers, names and statuses of the rules, and each of them has to be in an example.
-Needs curl. The last line is 'N examples, M wrong'.
+A `text` block whose first line begins with `$ ` is a session of a shell, as in the README. The blocks `http` and `frame` are one
+run over a new house in a file, each message on a connection of its own. In an `http` block a message has its method, its path and
+its fields in one line, then its body; `20 times` before it sends it so often. In a `frame` block it is whole. After `<` comes
+what the program has to answer: status and body, of a frame the whole answer. A long body goes on in indented lines. With `--told`
+the page is printed with what the program answered. The table of refusals has to have the numbers, names and statuses of the
+rules, and each of them has to be in an example. Needs curl. The last line is 'N examples, M wrong'.
+
+Promise: bytes to bytes
 """
 import pathlib
 import re

@@ -1,22 +1,22 @@
 #!/usr/bin/env python3
 """Holds answers against docs/openapi.yaml, the description of the interface: `openapi.py SUITE..`.
 
-The suites are folders of conformance cases. Each answer of `replay` and of `serve` that is in a case is held
-against its place in the description: the path and the method of its message, its status, its headers and its body. The
-lists of `audit` and `surplus` have no answers with them; those of tests/lib/plain_site.py are held. A message that was
-accepted has to fit the description too, in its path, its headers and its body. One that was answered a fault of these must
-not. At the bounds of each field and past them a body fits exactly where the plain site takes it.
+The suites are folders of conformance cases. Each answer of `replay` and of `serve` that is in a case is held against its place in
+the description: the path and the method of its message, its status, its headers and its body. The lists of `audit` and `surplus`
+have no answers with them; those of tests/lib/plain_site.py are held. A message that was accepted has to fit the description too,
+in its path, its headers and its body. One that was answered a fault of these must not. At the bounds of each field and past them
+a body fits exactly where the plain site takes it.
 
-What is described has to be used: each operation, each refusal and each field of each operation, each fault, each
-status and each word of an enumeration. What no case has, `unseen` has from the rules. A refusal has the number and the
-status of the rules, and those of a command are in the order of docs/HTTP.md. Nothing in an answer is open: an object
-has all its keys and no other, and numbers, texts and lists have bounds. Last, an answer of each kind is spoiled in each
-way of tests/lib/spoiled_answers.py, and none of these may fit.
+What is described has to be used: each operation, each refusal and each field of each operation, each fault, each status and each
+word of an enumeration. What no case has, `unseen` has from the rules. A refusal has the number and the status of the rules, and
+those of a command are in the order of docs/HTTP.md. Nothing in an answer is open: an object has all its keys and no other, and
+numbers, texts and lists have bounds. Last, an answer of each kind is spoiled in each way of tests/lib/spoiled_answers.py, and
+none of these may fit.
 
-Needs the packages jsonschema and openapi-spec-validator. `openapi.py --packages` tells in one line which is missing,
-and ends with 1 then. The last line is 'N answers, M spoiled, K wrong'.
+Needs the packages jsonschema and openapi-spec-validator. `openapi.py --packages` tells in one line which is missing, and ends
+with 1 then. The last line is 'N answers, M spoiled, K wrong'.
 
-Seen: 18,878 answers, 9,337 spoiled ones, none wrong, in 7 seconds of processor time.
+Promise: none
 """
 import dataclasses
 import json

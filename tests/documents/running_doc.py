@@ -2,10 +2,13 @@
 """Does what docs/RUNNING.md says: `running_doc.py PROGRAM`.
 
 The sessions of the page print what it shows; a comment in front of one, `<!-- after: COMMAND -->`, has what was done before. The
-table of lines has each line of the program's faults, as the help has, and a comment in each row names scripts that have the line. Causes that no other script has are brought about: a port that the user
-may not use, too many open files, standard error that takes nothing, a sale whose row is spoiled. A server that gets a
-signal leaves both files with all that it answered, which an opening takes; then a statement makes one file of two, of
-which a backup is a copy. Needs curl and sqlite3. The last line is 'N checks, M wrong'.
+table of lines has each line of the program's faults, as the help has, and a comment in each row names scripts that have the line.
+Causes that no other script has are brought about: a port that the user may not use, too many open files, standard error that
+takes nothing, a sale whose row is spoiled. A server that gets a signal leaves both files with all that it answered, which an
+opening takes; then a statement makes one file of two, of which a backup is a copy. Needs curl and sqlite3. The last line is 'N
+checks, M wrong'.
+
+Promise: none
 """
 import contextlib
 import os

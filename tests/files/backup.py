@@ -1,16 +1,18 @@
 #!/usr/bin/env python3
 """Copies a house that is served, and restores it, by the scripts of examples/backup: `backup.py PROGRAM [COPIES]`.
 
-A client sends commands one after the other, each of which makes a row, while the house is copied COPIES times (20 where none
-are given) with a pause between file and log, so that the log is written into the file meanwhile now and then. Each copy has to
-be one file, sound for SQLite, with the rows of all that was answered before it was begun, and of no more than what was sent
-before it was done. What SQLite itself says of a served house is that it is locked, and that disturbs nobody. A copy is not
-restored over a house that is served; over one that isn't, or that is damaged, it is, and the program serves it. What is no house
-of this version is neither copied nor restored, and a copy that finds no room leaves nothing behind. A city's copy has its house,
-its accounts and its settings, and old ones are dropped. A house that was compacted by VACUUM, or has lost a page, is none, and the
-rows that SQLite reads are made one again. Where a superuser runs this, a restored house is its folder's owner's; and where
-btrfs-progs is there, snapshots of a file system of its own are copied too, also beside what a killed one has left. The last line
-is 'N checks, M wrong'.
+A client sends commands one after the other, each of which makes a row, while the house is copied COPIES times (20 where none are
+given) with a pause between file and log, so that the log is written into the file meanwhile now and then. Each copy has to be one
+file, sound for SQLite, with the rows of all that was answered before it was begun, and of no more than what was sent before it
+was done. What SQLite itself says of a served house is that it is locked, and that disturbs nobody. A copy is not restored over a
+house that is served; over one that isn't, or that is damaged, it is, and the program serves it. What is no house of this version
+is neither copied nor restored, and a copy that finds no room leaves nothing behind. A city's copy has its house, its accounts and
+its settings, and old ones are dropped. A house that was compacted by VACUUM, or has lost a page, is none, and the rows that
+SQLite reads are made one again. Where a superuser runs this, a restored house is its folder's owner's; and where btrfs-progs is
+there, snapshots of a file system of its own are copied too, also beside what a killed one has left. The last line is 'N checks, M
+wrong'.
+
+Promise: none
 """
 import contextlib
 import datetime

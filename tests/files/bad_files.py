@@ -1,10 +1,12 @@
 #!/usr/bin/env python3
 """Gives each command that takes a file what is no house, or can't be had: `bad_files.py PROGRAM`.
 
-Each has its line on standard error and ends with status 1; the file stays byte for byte what it was, and no more is
-left beside it than a log without a commit. A file of which nothing can be read or written is so to another user than
-the superuser: where a superuser runs this, the program runs as nobody. What SQLite has locked can be had once it is
-free. The last line is 'N checks, M wrong'.
+Each has its line on standard error and ends with status 1; the file stays byte for byte what it was, and no more is left beside
+it than a log without a commit. A file of which nothing can be read or written is so to another user than the superuser: where a
+superuser runs this, the program runs as nobody. What SQLite has locked can be had once it is free. The last line is 'N checks, M
+wrong'.
+
+Promise: bytes to bytes
 """
 import contextlib
 import hashlib

@@ -1,17 +1,20 @@
 #!/usr/bin/env python3
 """Serves houses whose disk fails under bids: `failed_disk.py PROGRAM`, as root.
 
-A house lies on a small file system in memory, which it fills up; or on one that begins to answer writes, syncs or all changes with
-an I/O error, by failing_files.py; or on a block device of a network, by NBD without the kernel's module, which is cut off. Members
-bid over one connection, or over one for each bid. A bid is then answered 500 `store`, and so is all that follows on its connection;
-the server takes no other connection, and ends with `auction: file: Store` and status 1. Once the disk takes writes again the house
-is started anew: SQLite finds it sound, each answered bid is in it, with at most the one more that was answered 500, and bids go on.
+A house lies on a small file system in memory, which it fills up; or on one that begins to answer writes, syncs or all changes
+with an I/O error, by failing_files.py; or on a block device of a network, by NBD without the kernel's module, which is cut off.
+Members bid over one connection, or over one for each bid. A bid is then answered 500 `store`, and so is all that follows on its
+connection; the server takes no other connection, and ends with `auction: file: Store` and status 1. Once the disk takes writes
+again the house is started anew: SQLite finds it sound, each answered bid is in it, with at most the one more that was answered
+500, and bids go on.
 
-house.sh of the gateway starts a house again by itself whose disk another file has filled, and members go on through its queue once
-that file is gone.
+house.sh of the gateway starts a house again by itself whose disk another file has filled, and members go on through its queue
+once that file is gone.
 
-The Debian packages are python3-fusepy; nbdkit, libnbd-bin, fuse2fs and e2fsprogs; haproxy and curl. What needs one that is missing
-is left out, with a line. The last line is 'N checks, M wrong'.
+The Debian packages are python3-fusepy; nbdkit, libnbd-bin, fuse2fs and e2fsprogs; haproxy and curl. What needs one that is
+missing is left out, with a line. The last line is 'N checks, M wrong'.
+
+Promise: bytes to bytes
 """
 import contextlib
 import json

@@ -2,7 +2,10 @@
 """Mounts a folder at another place, where calls fail on demand: `failing_files.py FOLDER PLACE SWITCH`, as root.
 
 Each call is passed on to the folder. While the file SWITCH is there, those that it names, of `write`, `fsync` and `truncate`, end
-with an I/O error, as of a disk that fails. It goes on until PLACE is unmounted. The Debian package is python3-fusepy.
+with an I/O error, as of a disk that fails. It goes on until PLACE is unmounted. failed_disk.py runs it. The Debian package is
+python3-fusepy.
+
+Promise: none
 """
 import errno
 import fusepy

@@ -1,15 +1,17 @@
 #!/usr/bin/env python3
-"""What lies in the file of a house, beside its log and alone: `house_file.py PROGRAM`.
+"""Looks what lies in the file of a house, beside its log and alone: `house_file.py PROGRAM`.
 
-After each command that has ended the file is copied without its log, and has to be the whole house, for the
-program and for SQLite. Nobody but its user may read it. While a house is served nobody else opens it, and nothing is lost by the try. A server that
-is killed leaves all that it acknowledged in the file with its log; and where that log is cut, wherever that is, the
-house as some of the accepted commands left it, and later ones not without the earlier. Where files may not grow, a
-command is answered that the store failed, and so is all after it on its connection, with which the server ends; and the house
-holds what was accepted before. The last line is 'N checks, M wrong'.
+After each command that has ended the file is copied without its log, and has to be the whole house, for the program and for
+SQLite. Nobody but its user may read it. While a house is served nobody else opens it, and nothing is lost by the try. A server
+that is killed leaves all that it acknowledged in the file with its log; and where that log is cut, wherever that is, the house as
+some of the accepted commands left it, and later ones not without the earlier. Where files may not grow, a command is answered
+that the store failed, and so is all after it on its connection, with which the server ends; and the house holds what was accepted
+before. The last line is 'N checks, M wrong'.
 
-Four sizes are the limit for `init`, five for `serve`; a log of twelve commands is cut after each of its pages and
-within some; a copy is read after the `statement` of a house whose server was killed.
+Four sizes are the limit for `init`, five for `serve`; a log of twelve commands is cut after each of its pages and within some; a
+copy is read after the `statement` of a house whose server was killed.
+
+Promise: bytes to bytes
 """
 import os
 import pathlib

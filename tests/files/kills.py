@@ -1,17 +1,16 @@
 #!/usr/bin/env python3
-"""Kills `serve` and `upgrade` at random moments, and looks what is left: `kills.py PROGRAM [KILLS] [SEED]`.
+"""Kills `serve` and `upgrade` at random moments, and looks what is left: `kills.py PROGRAM [KILLS [SEED]]`.
 
-A client sends commands one after the other, each of which makes one row, and counts those that were answered. The
-server is killed by SIGKILL, and the house's file with its log has to be sound for SQLite, and to hold what the
-commands that were answered make, each item with its reserve, or one command more: the rows of a house that took as
-many and was never killed. Then the same file is served again. This shows a killed process, not a power cut: what was
-written is there though nobody had synced it.
+A client sends commands one after the other, each of which makes one row, and counts those that were answered. The server is
+killed by SIGKILL, and the house's file with its log has to be sound for SQLite, and to hold what the commands that were answered
+make, each item with its reserve, or one command more: the rows of a house that took as many and was never killed. Then the same
+file is served again. This shows a killed process, not a power cut: what was written is there though nobody had synced it.
 
-As many upgrades of each house of version 1 that is kept are killed within the time that one takes. Each leaves the
-house as it was, or upgraded, and it is then upgraded, or of version 2. A line tells how many left which. The last line
-is 'K kills, N commands, M of them more than answered, W wrong'.
+As many upgrades of each house of version 1 that is kept are killed within the time that one takes. Each leaves the house as it
+was, or upgraded, and it is then upgraded, or of version 2. A line tells how many left which. KILLS is 200 without it. The last
+line is 'K kills, N commands, M of them more than answered, W wrong'.
 
-In the gate 40 servers and 80 upgrades are killed, without a number 200 and 400.
+Promise: bytes to bytes
 """
 import pathlib
 import random

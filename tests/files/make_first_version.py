@@ -1,9 +1,10 @@
 #!/usr/bin/env python3
 """Makes the houses that tests/lib/version-1 keeps: `make_first_version.py PROGRAM`, with a program of version 1.
 
-Both take the commands of tests/lib/routes.py, so that they have a row of every kind. `house` was served to its end, and is
-the house alone. The server of `stopped` got SIGTERM, so that the log beside it belongs to it. The scripts that upgrade
-copies of them begin here: what lies in a file, by SQLite, and what an upgrade has to make of it.
+Both take the commands of tests/lib/routes.py, so that they have a row of every kind. `house` was served to its end, and is the
+house alone. The server of `stopped` got SIGTERM, so that the log beside it belongs to it.
+
+Promise: none
 """
 import pathlib
 import shutil

@@ -1,20 +1,19 @@
 #!/usr/bin/env python3
 """Models power cuts of `init`, `serve` and `upgrade`: `power_cuts.py PROGRAM [EVERY]`. It needs a C compiler, `cc`.
 
-The calls on its files of a house that is made, served all thirteen commands and ended are noted once. After each of them,
-or each EVERYth, the power is cut: what was synced is there, and of the changes since then nothing, all, each beginning, all
-but any one, any one alone, those of either file alone, and every other sector of all. Each pair of files that may
-be left is opened by SQLite, which has to find a sound database, and by the program: both have to find the house after the
-commands that were answered, or after one more, and the program has to take another command. Files of a house that was
-being made hold no house, and one can be made there, or a house with no history. So it is with the calls of an upgrade of
-each house of version 1 that is kept: what is left is the house as it was or as it is upgraded, and the program upgrades it,
-or finds it of version 2. The last line is 'N calls, C cuts, F pairs of files, M of them with one command more than answered,
-W wrong'.
+The calls on its files of a house that is made, served all thirteen commands and ended are noted once. After each of them, or each
+EVERYth, the power is cut: what was synced is there, and of the changes since then nothing, all, each beginning, all but any one,
+any one alone, those of either file alone, and every other sector of all. Each pair of files that may be left is opened by SQLite,
+which has to find a sound database, and by the program: both have to find the house after the commands that were answered, or
+after one more, and the program has to take another command. Files of a house that was being made hold no house, and one can be
+made there, or a house with no history. So it is with the calls of an upgrade of each house of version 1 that is kept: what is
+left is the house as it was or as it is upgraded, and the program upgrades it, or finds it of version 2. The last line is 'N
+calls, C cuts, F pairs of files, M of them with one command more than answered, W wrong'.
 
-Seen on the proved program: 393 calls, 414 cuts, 1,164 pairs of files, 516 of them with one command more than was
-answered; with EVERY 12 53 cuts and 309 pairs. None was wrong. With syncs that do nothing in the
-model, the commands that were answered are lost, which is reported. The model takes a sync at its word, and a device to
-finish each sector of 512 bytes that it begins; no power was cut, and no device was tested.
+The model takes a sync at its word, and a device to finish each sector of 512 bytes that it begins; no power is cut, and no device
+is tested.
+
+Promise: bytes to bytes
 """
 import socket
 import sys

@@ -8,6 +8,8 @@ volume heals. The machine that serves is killed, or cut off, under bids, and the
 answered has to be in the house then. One that is cut off takes no bid after another machine has opened it, and its server ends
 with `auction: file: Store`. The same, killed, is done with an arbiter for the third machine. The Debian package is
 glusterfs-server. The last line is 'N checks, M wrong'.
+
+Promise: none
 """
 import contextlib
 import json

@@ -1,9 +1,11 @@
 #!/usr/bin/env python3
 """Bids on a house over one kept connection, and notes each answered bid: `replica_bids.py PORT ACKED SECONDS ITEMS`.
 
-ACKED gets a line `item count member maximum` once the answer 201 has come, and nothing before it. A house without items gets three
-members, a category and ITEMS items first. It ends after SECONDS, or at the first fault, and prints one line of JSON: how many
-bids were answered, how many a second, the longest answer in milliseconds, and the fault or null.
+ACKED gets a line `item count member maximum` once the answer 201 has come, and nothing before it. A house without items gets
+three members, a category and ITEMS items first. It ends after SECONDS, or at the first fault, and prints one line of JSON: how
+many bids were answered, how many a second, the longest answer in milliseconds, and the fault or null. replica.py runs it.
+
+Promise: none
 """
 import json
 import sys

@@ -1,14 +1,13 @@
 #!/usr/bin/env python3
 """Serves houses with a spoiled row: `spoiled_house.py PROGRAM`.
 
-A house of the messages of tests/lib/routes.py has one column of one row changed by Python's sqlite3, so that the row is no
-row of a house's. Then every page is asked by everybody, and commands name each item. What needs the row is answered
-500 `damaged`, and has not acted; what only names it may be; everything else is answered as the plain site answers it,
-on the same connection, and so it is when the house is served again. The last line is 'N answers, M wrong'.
+A house of the messages of tests/lib/routes.py has one column of one row changed by Python's sqlite3, so that the row is no row of
+a house's. Then every page is asked by everybody, and commands name each item. What needs the row is answered 500 `damaged`, and
+has not acted; what only names it may be; everything else is answered as the plain site answers it, on the same connection, and so
+it is when the house is served again. Of lists of fifty from sixty rows and more those that end before the row are answered as if
+it were sound. The last line is 'N answers, M wrong'.
 
-29 rows are spoiled: a standing that no bids leave, a leader who is the seller, a purchase at another price, a reserve
-that doesn't go with the price, texts with control characters; a close goes over it. Of lists of fifty from sixty rows
-and more those that end before the row are answered as if it were sound.
+Promise: operations
 """
 import pathlib
 import sys

@@ -1,9 +1,11 @@
 #!/usr/bin/env python3
 """Counts the statements that a message makes of a house in a file: `statement_counts.py PROGRAM`. It needs `valgrind`.
 
-A house is served under callgrind, which counts calls, with messages and with one more of a kind. What is called more
-often is called for that one. A statement has its parameters bound once, by the function BINDS of the port of SQLite. No
-kind may make more statements than it is listed with. The last line is 'N kinds, M wrong'.
+A house is served under callgrind, which counts calls, with messages and with one more of a kind. What is called more often is
+called for that one. A statement has its parameters bound once, by the function BINDS of the port of SQLite. No kind may make more
+statements than it is listed with. The last line is 'N kinds, M wrong'.
+
+Promise: none
 """
 import pathlib
 import re

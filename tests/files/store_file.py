@@ -1,20 +1,21 @@
 #!/usr/bin/env python3
 """Plays a script on a house in a file, and looks at the file: `store_file.py PROGRAM`.
 
-The program is that of the crate `test_store`, and the script the part of its section `houses` on those in SQLite before
-`fill`. A first run makes the house in a new file and is given the commands; a second opens the file and is asked;
-each answer has to be the one that it has. Then Python's sqlite3, and SQLite's shell where it is there, look for
-damage and for keys that lead nowhere, and read the tables, which have to be those of the script's commands. A house
-isn't made in a file that has one. A file that is no house, or a damaged one, answers nothing and stays as it is: an
-empty one, one cut short, one with a page overwritten, and one with other tables or another version. One with a row
-that has a column out of its range, or whose columns don't fit together, is opened, and doesn't answer when that row
-is asked for. Then each column of each row of every table is spoiled in turn, and every look-up and every list is
-asked: each is refused, or answers as before, or as if the row weren't there where the column is one by which rows are
-found; an item that is due by a spoiled column isn't counted as due. The same of items as no bids and no purchase
-leave them, by their columns or by their reserves, whose readers are all refused; but a former leader has bought no
-such item, and no list of reserves has one without. The last line is 'N checks, M wrong'.
+The program is that of the crate `test_store`, and the script the part of its section `houses` on those in SQLite before `fill`. A
+first run makes the house in a new file and is given the commands; a second opens the file and is asked; each answer has to be the
+one that it has. Then Python's sqlite3, and SQLite's shell where it is there, look for damage and for keys that lead nowhere, and
+read the tables, which have to be those of the script's commands. A house isn't made in a file that has one. A file that is no
+house, or a damaged one, answers nothing and stays as it is: an empty one, one cut short, one with a page overwritten, and one
+with other tables or another version. One with a row that has a column out of its range, or whose columns don't fit together, is
+opened, and doesn't answer when that row is asked for.
 
-Thirty-four items are as no bids and no purchase leave them.
+Then each column of each row of every table is spoiled in turn, and every look-up and every list is asked: each is refused, or
+answers as before, or as if the row weren't there where the column is one by which rows are found; an item that is due by a
+spoiled column isn't counted as due. The same of items as no bids and no purchase leave them, by their columns or by their
+reserves, whose readers are all refused; but a former leader has bought no such item, and no list of reserves has one without. The
+last line is 'N checks, M wrong'.
+
+Promise: operations
 """
 import contextlib
 import pathlib

@@ -1,12 +1,14 @@
 #!/usr/bin/env python3
 """Has keepalived give a city's address to one of two machines: `take_over_name.py PROGRAM`, as root.
 
-The machines are namespaces of this one, as in replica.py, and the house lies in a folder that both see. keepalived runs on both by
-examples/replica/keepalived.conf, and so do the scripts that it calls; in the place of systemd a script starts and ends the house.
-A client on a third machine bids at the address, and notes each answered bid. The machine that serves is killed; another one's
-house ends and does not come back; another one is cut off. Each time the other machine has to have the address and all bids that
-were answered, and the one that was cut off may serve no more. keepalived and haproxy are of Debian's packages. The last line is
-'N checks, M wrong'.
+The machines are namespaces of this one, as in replica.py, and the house lies in a folder that both see. keepalived runs on both
+by examples/replica/keepalived.conf, and so do the scripts that it calls; in the place of systemd a script starts and ends the
+house. A client on a third machine bids at the address, and notes each answered bid. The machine that serves is killed; another
+one's house ends and does not come back; another one is cut off. Each time the other machine has to have the address and all bids
+that were answered, and the one that was cut off may serve no more. keepalived and haproxy are of Debian's packages. The last line
+is 'N checks, M wrong'.
+
+Promise: none
 """
 import contextlib
 import json

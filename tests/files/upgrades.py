@@ -1,19 +1,20 @@
 #!/usr/bin/env python3
 """Upgrades houses of version 1: `upgrades.py PROGRAM`.
 
-The houses are those that tests/lib/version-1 keeps, which a program of version 1 has made: one that is alone in its file,
-and one whose log belongs to it. What other commands on a file tell of them is that they are damaged, and they stay as
-they are. SQLite reads each before and after its upgrade: the rows are those of the rules in Python, and stay, but that
-the row of the house has version 2; the tables that are new are empty, the texts of the schema are those of a new house, in their order, and SQLite keeps the
-keys and references of the new tables. Then the house answers every page, and further commands, some with a reserve, as
-the plain site does.
-Upgraded again it is of version 2, and stays byte for byte what it was.
+The houses are those that tests/lib/version-1 keeps, which a program of version 1 has made: one that is alone in its file, and one
+whose log belongs to it. What other commands on a file tell of them is that they are damaged, and they stay as they are. SQLite
+reads each before and after its upgrade: the rows are those of the rules in Python, and stay, but that the row of the house has
+version 2; the tables that are new are empty, the texts of the schema are those of a new house, in their order, and SQLite keeps
+the keys and references of the new tables. Then the house answers every page, and further commands, some with a reserve, as the
+plain site does. Upgraded again it is of version 2, and stays byte for byte what it was.
 
-What is no house of version 1 is reported as damaged, byte for byte as it was: another version, a table more or less, a row
-of the house or a band that doesn't fit, a number over the count. An upgrade looks at no other row: a house with a
-spoiled one is upgraded, keeps it as it is, and tells it as damaged where it is read, as tests/files/spoiled_house.py has it.
-So it does with a zone that is no rule. Where files may not grow the house is of one version or the other, and nothing
-of it is lost; where the output is full it is upgraded. The last line is 'N checks, M wrong'.
+What is no house of version 1 is reported as damaged, byte for byte as it was: another version, a table more or less, a row of the
+house or a band that doesn't fit, a number over the count. An upgrade looks at no other row: a house with a spoiled one is
+upgraded, keeps it as it is, and tells it as damaged where it is read, as tests/lib/spoiled_rows.py has it. So it does with a zone
+that is no rule. Where files may not grow the house is of one version or the other, and nothing of it is lost; where the output is
+full it is upgraded. The last line is 'N checks, M wrong'.
+
+Promise: bytes to bytes
 """
 import contextlib
 import pathlib

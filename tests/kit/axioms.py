@@ -2,11 +2,13 @@
 """Lists what the proof of a program takes without proof: `axioms.py NAME`, as `axioms.py auction`.
 
 `rt check --list-axioms` lists the C functions of a program, but proves each crate below it first, one after the other. So this
-copies the crate, and all that it stands on, has `rt ci` prove the copy, of which it takes what an earlier run has kept, and checks
-the program alone over those libraries. What it prints is the prover's own list: each C function whose contract the proof assumes,
-with the place of the contract in the kit; the libraries of the kit, which are taken as they are built; and the last line of the
-check. It then looks in our own files for the words by which something could be assumed, and fails where there are any, or where the
-list and the count in the last line differ. docs/PROMISES.md says what such a list can't see.
+copies the crate, and all that it stands on, has `rt ci` prove the copy, of which it takes what an earlier run has kept, and
+checks the program alone over those libraries. What it prints is the prover's own list: each C function whose contract the proof
+assumes, with the place of the contract in the kit; the libraries of the kit, which are taken as they are built; and the last line
+of the check. It then looks in our own files for the words by which something could be assumed, and fails where there are any, or
+where the list and the count in the last line differ. docs/PROMISES.md says what such a list can't see.
+
+Promise: none
 """
 import pathlib
 import re

@@ -1,13 +1,15 @@
 #!/usr/bin/env python3
 """Puts in bodies that give up, and looks whether the tests find them: `giving_up.py [NAME..]`.
 
-A body that always tells want of memory, or that the store failed, is proved under any contract: memory may be refused at
-any call, and a contract shows no cause. So only tests find it. Each is put into a copy of the checkout and built without
-proofs, by `rt try`; then a section of the stored run of `test_site` or `test_store` has to come out otherwise, or
-tests/office/office.py has to fail on the program. With nothing put in they have to pass. NAMEs choose among the bodies, `all`
-takes all, none those that are MAIN. As many are built at once as there are processors, and memory for. It needs the
-kit, with its `rt` on the path. The last line is 'N bodies, M not found'. With `--texts` nothing is built: each text that
-a body takes the place of has to be in its file once.
+A body that always tells want of memory, or that the store failed, is proved under any contract: memory may be refused at any
+call, and a contract shows no cause. So only tests find it. Each is put into a copy of the checkout and built without proofs, by
+`rt try`; then a section of the stored run of `test_site` or `test_store` has to come out otherwise, or tests/office/office.py has
+to fail on the program. With nothing put in they have to pass. NAMEs choose among the bodies, `all` takes all, none those that are
+MAIN. As many are built at once as there are processors, and memory for. It needs the kit, with its `rt` on the path. The last
+line is 'N bodies, M not found'. With `--texts` nothing is built: each text that a body takes the place of has to be in its file
+once.
+
+Promise: none
 """
 import contextlib
 import dataclasses

@@ -1,11 +1,13 @@
 #!/usr/bin/env python3
-"""Tells what a run of `rt` took by crate and by step: `run_timed.py COMMAND..`, as `run_timed.py rt ci --anew`.
+"""Runs a command of `rt` and tells what it took by crate and by step: `run_timed.py COMMAND..`.
 
-The command's output passes. Each second all processes that it has started are looked at in /proc, and the last that was
-seen of each counts. A step is the proof of a crate, that of its tests, the proof that its edits begin with (the seed),
-the edits, the build of a program or of tests, or a run of one. What short processes took that no look has met is
-known from the whole run alone, and has a line of its own. The table is in out/COMMAND.times too, each minute anew.
-The script ends as the command does.
+As `run_timed.py rt ci --anew`. The command's output passes. Each second all processes that it has started are looked at in /proc,
+and the last that was seen of each counts. A step is the proof of a crate, that of its tests, the proof that its edits begin with
+(the seed), the edits, the build of a program or of tests, or a run of one. What short processes took that no look has met is
+known from the whole run alone, and has a line of its own. The table is in out/COMMAND.times too, each minute anew. The script
+ends as the command does.
+
+Promise: none
 """
 import subprocess
 import sys

@@ -1,10 +1,11 @@
 #!/usr/bin/env python3
 """Tries the wrong bodies that the gate leaves out, those of crates/NAME/wrong: `wrong.py [NAME..]`.
 
-They are apart for the gate's time alone, and are tried on demand: those of named crates, or of all. On a copy of the
-checkout they take the place of must-fail, and `rt must-fail` has to find each refused. A crate that has none is no
-fault, and is reported. It needs the kit, with its `rt` on the path. The last line tells how many were tried, and how long
-it took.
+They are apart for the gate's time alone, and are tried on demand: those of named crates, or of all. On a copy of the checkout
+they take the place of must-fail, and `rt must-fail` has to find each refused. A crate that has none is no fault, and is reported.
+It needs the kit, with its `rt` on the path. The last line tells how many were tried, and how long it took.
+
+Promise: none
 """
 import pathlib
 import shutil

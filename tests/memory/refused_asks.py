@@ -1,10 +1,12 @@
 #!/usr/bin/env python3
 """Refuses each allocation of the reading of messages in turn: `refused_asks.py PROGRAM`.
 
-The program is that of the crate `test_messages`, and tells what each message of a script asks. A run that is refused
-memory ends with status 1 and `test_messages: memory is wanted`, and what it printed before is as ever. So it has to
-be for each message of the script: those of one field, of many, with an escape and with an object inside, a read and
-a fault. It needs a C compiler, `cc`. The last line is 'N runs, M wrong'.
+The program is that of the crate `test_messages`, and tells what each message of a script asks. A run that is refused memory ends
+with status 1 and `test_messages: memory is wanted`, and what it printed before is as ever. So it has to be for each message of
+the script: those of one field, of many, with an escape and with an object inside, a read and a fault. It needs a C compiler,
+`cc`. The last line is 'N runs, M wrong'.
+
+Promise: safe and total
 """
 import pathlib
 import sys

@@ -1,10 +1,11 @@
 #!/usr/bin/env python3
 """Refuses each allocation of the making of band tables in turn: `refused_bands.py PROGRAM`.
 
-The program is that of the crate `test_values`. A run that is refused memory ends before its next answer, with
-status 1 and `test_values: memory is wanted`; or a table was being made, and then the answer to its line is
-`Memory`, and every other line is answered as ever, as all are where the memory was not needed. It needs a C
-compiler, `cc`. The last line is 'N runs, M wrong'.
+The program is that of the crate `test_values`. A run that is refused memory ends before its next answer, with status 1 and
+`test_values: memory is wanted`; or a table was being made, and then the answer to its line is `Memory`, and every other line is
+answered as ever, as all are where the memory was not needed. It needs a C compiler, `cc`. The last line is 'N runs, M wrong'.
+
+Promise: safe and total
 """
 import pathlib
 import sys

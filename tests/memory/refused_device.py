@@ -1,11 +1,12 @@
 #!/usr/bin/env python3
 """Refuses each allocation of a sink in memory in turn: `refused_device.py PROGRAM`.
 
-The program is that of the crate `test_values`. A run that is refused memory ends before its next answer, with
-status 1 and `test_values: memory is wanted`; or a sink was to grow, and then it has failed: from that line on each
-call of it is `Err(Failure)`, and it has a beginning of the bytes that it was given, in order. Or all lines are
-answered as ever, where the memory was not needed. It needs a C compiler, `cc`. The last line is
-'N runs, M wrong'.
+The program is that of the crate `test_values`. A run that is refused memory ends before its next answer, with status 1 and
+`test_values: memory is wanted`; or a sink was to grow, and then it has failed: from that line on each call of it is
+`Err(Failure)`, and it has a beginning of the bytes that it was given, in order. Or all lines are answered as ever, where the
+memory was not needed. It needs a C compiler, `cc`. The last line is 'N runs, M wrong'.
+
+Promise: safe and total
 """
 import pathlib
 import re

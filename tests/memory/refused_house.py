@@ -1,11 +1,12 @@
 #!/usr/bin/env python3
 """Refuses each allocation of a house's run in turn, or one in so many: `refused_house.py PROGRAM [EVERY [WORD]]`.
 
-The program is that of the crate `test_store`, with the word `memory` for a house in memory and `sqlite`, or none here,
-for one in SQLite. Its script has every command and every question. With a refusal one line is answered `Memory`, and
-every other line as in the run without that line: the refused command has changed nothing. Or the run ends before the
-first line, with status 1; or all lines are answered as ever, where the memory was not needed. It needs a C compiler,
-`cc`. The last line is 'N runs, M wrong'.
+The program is that of the crate `test_store`, with the word `memory` for a house in memory and `sqlite`, or none here, for one in
+SQLite. Its script has every command and every question. With a refusal one line is answered `Memory`, and every other line as in
+the run without that line: the refused command has changed nothing. Or the run ends before the first line, with status 1; or all
+lines are answered as ever, where the memory was not needed. It needs a C compiler, `cc`. The last line is 'N runs, M wrong'.
+
+Promise: safe and total
 """
 import pathlib
 import sys

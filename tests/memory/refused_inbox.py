@@ -1,10 +1,11 @@
 #!/usr/bin/env python3
 """Refuses the buffer of an inbox, and each allocation of a run over one: `refused_inbox.py PROGRAM`.
 
-The run is that of `bench_wire frames 1`, which takes 16 messages through one inbox. Where the inbox is
-refused its 24576 bytes, the run has to end with `bench_wire: memory` and status 1, and has written
-nothing else. Where another allocation is refused it ends so too, or as if none were. It needs a C
-compiler, `cc`. The last line is 'N runs, M wrong'.
+The run is that of `bench_wire frames 1`, which takes 16 messages through one inbox. Where the inbox is refused its 24576 bytes,
+the run has to end with `bench_wire: memory` and status 1, and has written nothing else. Where another allocation is refused it
+ends so too, or as if none were. It needs a C compiler, `cc`. The last line is 'N runs, M wrong'.
+
+Promise: safe and total
 """
 import pathlib
 import sys

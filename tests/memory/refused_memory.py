@@ -1,11 +1,12 @@
 #!/usr/bin/env python3
 """Refuses each allocation of a run of three messages in turn: `refused_memory.py PROGRAM`.
 
-The run is two bids and a read, by the example table and by one of a file, and with the public record.
-Each message has to be answered 503, and has then not acted, or as in the run of the messages that were
-not answered 503, whose record follows; or the run ends with `auction: memory`, and has written nothing,
-or these answers and no record. A run without random bytes ends so too, and has written nothing. It needs
-a C compiler, `cc`. The last line is 'N runs, M wrong'.
+The run is two bids and a read, by the example table and by one of a file, and with the public record. Each message has to be
+answered 503, and has then not acted, or as in the run of the messages that were not answered 503, whose record follows; or the
+run ends with `auction: memory`, and has written nothing, or these answers and no record. A run without random bytes ends so too,
+and has written nothing. It needs a C compiler, `cc`. The last line is 'N runs, M wrong'.
+
+Promise: safe and total, bytes to bytes
 """
 import itertools
 import pathlib

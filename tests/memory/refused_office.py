@@ -1,12 +1,13 @@
 #!/usr/bin/env python3
 """Refuses allocations of `import`, `statement`, `audit` and `upgrade`: `refused_office.py PROGRAM [EVERY..]`.
 
-Each run ends as one that finds memory, or with `auction: memory` and 1. What was printed before remains: of an import
-the lines of its first rows, of a statement its beginning, of an audit nothing. The house's file then has the items
-that were printed and those that it had, every other table is as it was, and SQLite finds no fault in it. Of an upgrade
-every row is as it was, and the house of version 2 where that was printed, else of version 1 or 2. The EVERYs are how
-many allocations of each are passed over for each that is refused, 1 without them. It needs a C compiler, `cc`. The
-last line is 'N runs, M wrong'.
+Each run ends as one that finds memory, or with `auction: memory` and 1. What was printed before remains: of an import the lines
+of its first rows, of a statement its beginning, of an audit nothing. The house's file then has the items that were printed and
+those that it had, every other table is as it was, and SQLite finds no fault in it. Of an upgrade every row is as it was, and the
+house of version 2 where that was printed, else of version 1 or 2. The EVERYs are how many allocations of each are passed over for
+each that is refused, 1 without them. It needs a C compiler, `cc`. The last line is 'N runs, M wrong'.
+
+Promise: safe and total, operations
 """
 import collections
 import contextlib

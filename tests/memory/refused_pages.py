@@ -1,10 +1,12 @@
 #!/usr/bin/env python3
 """Refuses each allocation of a run that shows every page in turn: `refused_pages.py PROGRAM`.
 
-The program is that of the crate `test_site`. With a refusal one line is `memory`, of a page or the
-record whose text or tree was refused it, and every other line is as ever: the house and the text before
-it are left. Or the run ends before the refused house or command is made, with status 1; or all lines are
-as ever, where the memory was not needed. It needs a C compiler, `cc`. The last line is 'N runs, M wrong'.
+The program is that of the crate `test_site`. With a refusal one line is `memory`, of a page or the record whose text or tree was
+refused it, and every other line is as ever: the house and the text before it are left. Or the run ends before the refused house
+or command is made, with status 1; or all lines are as ever, where the memory was not needed. It needs a C compiler, `cc`. The
+last line is 'N runs, M wrong'.
+
+Promise: safe and total
 """
 import pathlib
 import sys

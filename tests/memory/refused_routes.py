@@ -1,16 +1,15 @@
 #!/usr/bin/env python3
 """Refuses allocations of runs over every route, one in so many: `refused_routes.py PROGRAM [REPLAY [SERVE [INIT]]]`.
 
-The messages are those of tests/lib/routes.py: each command accepted, each page read, each refusal and fault answered. With
-a refusal each has to be answered 503, or as the plain site answers it in the list without the messages that were
-answered 503; and the house is that list's. In memory the record, which follows, tells so; of a house in a file, which
-is served over one connection, each page and its rows, which have to be sound. Or the run ends with `auction: memory`,
-and has written nothing, or answers without a record; a house that was to be opened is then as it was. A refused `init`
-leaves a new house, or a place where one can be made. REPLAY, SERVE and INIT are how many allocations are
-passed over for each that is refused: 1, 1 and 1 without them. It needs a C compiler, `cc`. The last line is
-'N runs, M wrong'.
+The messages are those of tests/lib/routes.py: each command accepted, each page read, each refusal and fault answered. With a
+refusal each has to be answered 503, or as the plain site answers it in the list without the messages that were answered 503; and
+the house is that list's. In memory the record, which follows, tells so; of a house in a file, which is served over one
+connection, each page and its rows, which have to be sound. Or the run ends with `auction: memory`, and has written nothing, or
+answers without a record; a house that was to be opened is then as it was. A refused `init` leaves a new house, or a place where
+one can be made. REPLAY, SERVE and INIT are how many allocations are passed over for each that is refused: 1, 1 and 1 without
+them. It needs a C compiler, `cc`. The last line is 'N runs, M wrong'.
 
-There are 157 messages.
+Promise: safe and total, bytes to bytes
 """
 import collections
 import functools

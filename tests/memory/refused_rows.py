@@ -1,14 +1,14 @@
 #!/usr/bin/env python3
 """Refuses allocations of lists of messages in every form: `refused_rows.py PROGRAM [EVERY]`.
 
-The program is that of the crate `test_store`. The list makes the first house and bids on its item; it is played message
-by message and as one list, over a house in memory, with each allocation refused in turn, and over one in a database,
-with one in EVERY, 1 without it. Making the house and the site then answers `Memory`, and so does the run, before the
-first message, or the record; what is asked once more is as ever. Or one message is answered 503, and every other, and
-the record, is that of the list without it. Or the program itself had no memory, and printed nothing. It needs a C
-compiler, `cc`. The last line is 'N runs, M wrong'.
+The program is that of the crate `test_store`. The list makes the first house and bids on its item; it is played message by
+message and as one list, over a house in memory, with each allocation refused in turn, and over one in a database, with one in
+EVERY, 1 without it. Making the house and the site then answers `Memory`, and so does the run, before the first message, or the
+record; what is asked once more is as ever. Or one message is answered 503, and every other, and the record, is that of the list
+without it. Or the program itself had no memory, and printed nothing. It needs a C compiler, `cc`. The last line is 'N runs, M
+wrong'.
 
-In 13,226 runs each of the ten messages was refused, message by message and in a list, in memory and in a database.
+Promise: safe and total, bytes to bytes
 """
 import collections
 import pathlib

@@ -1,10 +1,11 @@
 #!/usr/bin/env python3
 """Refuses each allocation of a run that makes and writes a statement: `refused_statement.py PROGRAM`.
 
-The run is that of `bench_settle 240`: 24 lines, for a sort of more than 20 takes memory too. Without
-refusals it writes the statement of tests/lib/statement.py. With one it ends with status 1, tells that
-there was no memory, and has written nothing. It needs a C compiler, `cc`. The last line is
-'N runs, M wrong'.
+The run is that of `bench_settle 240`: 24 lines, for a sort of more than 20 takes memory too. Without refusals it writes the
+statement of tests/lib/statement.py. With one it ends with status 1, tells that there was no memory, and has written nothing. It
+needs a C compiler, `cc`. The last line is 'N runs, M wrong'.
+
+Promise: safe and total
 """
 import pathlib
 import sys

@@ -1,13 +1,14 @@
 #!/usr/bin/env python3
 """Refuses allocations of a house's runs in a file, one in so many: `refused_store.py PROGRAM [EVERY [OPENING]]`.
 
-The program is that of the crate `test_store`. With a refusal a house is made in a new file, and then
-asked without one: it answers as the same house in memory does, which got every command but the one that
-was answered `Memory`. Then a house that is there is asked with a refusal: the answers break off with
-status 1, or all come, and the file is as it was. So it is where no more is asked than that it opens and
-tells its clock, with one allocation in OPENING refused. A run that ends with status 1 tells that memory
-is wanted. EVERY and OPENING are 1 where they are left out. It needs a C compiler, `cc`. The last line is
-'N runs, M wrong'.
+The program is that of the crate `test_store`. With a refusal a house is made in a new file, and then asked without one: it
+answers as the same house in memory does, which got every command but the one that was answered `Memory`. Then a house that is
+there is asked with a refusal: the answers break off with status 1, or all come, and the file is as it was. So it is where no more
+is asked than that it opens and tells its clock, with one allocation in OPENING refused. A run that ends with status 1 tells that
+memory is wanted. EVERY and OPENING are 1 where they are left out. It needs a C compiler, `cc`. The last line is 'N runs, M
+wrong'.
+
+Promise: safe and total
 """
 import contextlib
 import pathlib

@@ -1,12 +1,12 @@
 #!/usr/bin/env python3
 """Reads the statements of random houses in files: `accounts.py PROGRAM [HOUSES [SEED]]`.
 
-Sales lie round the midnights of two zones with summer time. Each member's statement of some periods has to be, as text,
-as CSV and as the page of `/me/statement`, the one of tests/lib/plain_office.py, and Python's `csv` has to read cents from
-it that add up: what was sold to fees and net, and over all members what was bought to what was earned and the fees, and
-to the prices of the public record. HOUSES is 6 without it. The last line is 'N checks, M wrong'.
+Sales lie round the midnights of two zones with summer time. Each member's statement of some periods has to be, as text, as CSV
+and as the page of `/me/statement`, the one of tests/lib/plain_office.py, and Python's `csv` has to read cents from it that add
+up: what was sold to fees and net, and over all members what was bought to what was earned and the fees, and to the prices of the
+public record. There are 6 periods and 4 members of each house. HOUSES is 6 without it. The last line is 'N checks, M wrong'.
 
-There are 6 periods and 4 members of each house.
+Promise: operations
 """
 import json
 import pathlib

@@ -1,8 +1,10 @@
 #!/usr/bin/env python3
 """Compares statements with those that Python makes: `compared_statements.py PROGRAM`.
 
-The program is that of the crate `bench_settle`. Its output has to be that of tests/lib/statement.py, and
-Python's csv has to read the fields of each line in it. The last line is 'N statements, M wrong'.
+The program is that of the crate `bench_settle`. Its output has to be that of tests/lib/statement.py, and Python's csv has to read
+the fields of each line in it. The last line is 'N statements, M wrong'.
+
+Promise: operations
 """
 import csv
 import pathlib

@@ -1,12 +1,14 @@
 #!/usr/bin/env python3
 """Audits lists of messages over the house in a file: `living_house.py PROGRAM`.
 
-A list is cut at each of its places: what comes before is answered by a house in a file, and what is left is audited
-over that file. It has to get what `audit` prints of the whole lists over new houses, less the replies and places
-before the cut; and so a raised bid. A house whose server was killed has some of its messages in its log alone: they
-count. The file and its log have to be the same bytes afterwards, and of the same time; where there is no log, an
-empty one is made. Each fault of the file has its line, and comes before those of the lists. While the house is served
-it is refused. Words that set up a new house are no words beside `--house`. The last line is 'N checks, M wrong'.
+A list is cut at each of its places: what comes before is answered by a house in a file, and what is left is audited over that
+file. It has to get what `audit` prints of the whole lists over new houses, less the replies and places before the cut; and so a
+raised bid. A house whose server was killed has some of its messages in its log alone: they count. The file and its log have to be
+the same bytes afterwards, and of the same time; where there is no log, an empty one is made. Each fault of the file has its line,
+and comes before those of the lists. While the house is served it is refused. Words that set up a new house are no words beside
+`--house`. The last line is 'N checks, M wrong'.
+
+Promise: isolation, surplus
 """
 import pathlib
 import signal

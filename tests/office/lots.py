@@ -1,14 +1,15 @@
 #!/usr/bin/env python3
 """Imports lot files into houses in files: `lots.py PROGRAM [ROWS [SEED]]`.
 
-The files are written as spreadsheets write them, and as nobody should; each import has to print what was worked out by
-hand or what tests/lib/plain_office.py prints, and the house has to have the items that this lists. A second import of
-the same file leaves every table as it was. A file of 20 MB, of which all is there already, is imported, and so is
-one of ROWS rows, 20,000 without it, in the least memory in which a hundred rows are, and a megabyte. The last line is
-'N checks, M wrong'.
+The files are written as spreadsheets write them, and as nobody should; each import has to print what was worked out by hand or
+what tests/lib/plain_office.py prints, and the house has to have the items that this lists. A second import of the same file
+leaves every table as it was. A file of 20 MB, of which all is there already, is imported, and so is one of ROWS rows, 20,000
+without it, in the least memory in which a hundred rows are, and a megabyte. The last line is 'N checks, M wrong'.
 
-53 files were worked out by hand: quotes, line ends of all kinds, a byte order mark, files that end inside quotes,
-bodies of 16,384 and 16,385 bytes, every fault; 40 are made at random, and each is imported twice.
+53 files were worked out by hand: quotes, line ends of all kinds, a byte order mark, files that end inside quotes, bodies of
+16,384 and 16,385 bytes, every fault; 40 are made at random, and each is imported twice.
+
+Promise: operations
 """
 import contextlib
 import csv

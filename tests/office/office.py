@@ -1,25 +1,12 @@
 #!/usr/bin/env python3
 """Lists lots, prints statements and audits runs: `office.py PROGRAM`.
 
-Each fault of `import`, `statement`, `bands`, `audit` and `surplus` has its line and its exit status, and of two faults
-the one that comes first in order is reported. What is printed has to be what the worked rows have; an import that is made again lists nothing
-and leaves every table as it was; and the file alone is then the house. An import ends where its output or the store
+Each fault of `import`, `statement`, `bands`, `audit` and `surplus` has its line and its exit status, and of two faults the one
+that comes first in order is reported. What is printed has to be what the worked rows have; an import that is made again lists
+nothing and leaves every table as it was; and the file alone is then the house. An import ends where its output or the store
 fails, and what it printed remains. The last line is 'N checks, M wrong'.
 
-Bodies that give up, put in by hand in a program that was built without proofs, were found by this script with lots.py,
-accounts.py and twins.py. Of `import` each of its eight faults always, each of six at the first row; `Memory` at the
-second, after the last, where there is none, for a lot of each kind, for member 2, from member 101 on, from moment 2^31
-on, at moment 0; `Memory`, `Store` or `Damaged` after a row that was listed, was there, was refused, is too long or
-can't be read; a row left out, doubled, passed over, listed for another member or at another moment, counted as another
-outcome; an end after 10,000 rows; a failed store that is a refusal, a failed output after which rows are listed, a
-keep that isn't ended. Of `statement` each of its five faults always; `Memory` or `Damaged` for member 2, later
-members, one day, more days, no sale, three sales, another zone than UTC, no fee; another member's sales, another
-period; a form for the other, written twice, not at all, or to an output that failed. Of `audit` each of its three
-faults always; `Memory` or `Store` at the first place, the fifth, the thirty-first, the last, at an own message, at an
-answer of 200, 404 or 409, where the lists are equal, apart, empty or of two lengths; always apart, at the first step,
-at the last, one early or late; the last place alone, the first alone, what is public alone or what waits alone
-compared, nothing compared after an own message or another's; own messages that may differ; a list against itself, as
-another member; a message left out, doubled or too long. Of each, every wrong exit status.
+Promise: operations
 """
 import contextlib
 import pathlib

@@ -1,8 +1,10 @@
 #!/usr/bin/env python3
 """Sends a hundred bids over one connection, one at a time and all at once: `at_once.py PROGRAM`.
 
-Both ways each bid is answered 201, and all at once takes no longer than one at a time: the last piece of the answers
-must not wait until the client has acknowledged the one before. The last line is 'N checks, M wrong'.
+Both ways each bid is answered 201, and all at once takes no longer than one at a time: the last piece of the answers must not
+wait until the client has acknowledged the one before. The last line is 'N checks, M wrong'.
+
+Promise: none
 """
 import pathlib
 import socket

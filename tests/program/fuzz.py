@@ -1,21 +1,17 @@
 #!/usr/bin/env python3
 """Sends random streams of messages to the program: `fuzz.py PROGRAM [COUNT [SEED [EVERY]]]`.
 
-A stream has commands and reads of every kind, with callers, moments, bodies, targets and fields that are right or
-broken, and it ends cleanly, by a message that ends the connection, at a broken frame, cut short, or in bytes at random.
-One maximum in four is any from 1 to the limit, near a bound, or equal to another. Each answer has to be well formed and
-the one of tests/lib/plain_site.py; of bytes at random nothing is known but the form, and that memory is ample, so that no
-answer is 503 or 500. Then what one member has sealed is changed, its maximum, a reserve, a watch or a question that
-waits, so that the stream is a twin for others by the plain site: what these are answered has to stay the same, byte for
-byte. One stream in EVERY, 5 without it and none where it is 0, is sent over TCP too, to a house in a file: it has to be
-answered the same, and the house that is served again has to show every page as the plain site does. The last line is 'N
-messages, M accepted, K wrong'; COUNT messages are sent at least, 5,000 without it.
+A stream has commands and reads of every kind, with callers, moments, bodies, targets and fields that are right or broken, and it
+ends cleanly, by a message that ends the connection, at a broken frame, cut short, or in bytes at random. One maximum in four is
+any from 1 to the limit, near a bound, or equal to another. Each answer has to be well formed and the one of
+tests/lib/plain_site.py; of bytes at random nothing is known but the form, and that memory is ample, so that no answer is 503 or
+500. Then what one member has sealed is changed, its maximum, a reserve, a watch or a question that waits, so that the stream is a
+twin for others by the plain site: what these are answered has to stay the same, byte for byte. One stream in EVERY, 5 without it
+and none where it is 0, is sent over TCP too, to a house in a file: it has to be answered the same, and the house that is served
+again has to show every page as the plain site does. The last line is 'N messages, M accepted, K wrong'; COUNT messages are sent
+at least, 5,000 without it.
 
-Seed 2026, on the proved program: 5,044 messages, of which 1,803 were accepted; every refusal was given; 32 pairs of twin
-runs, with 3,116 answers compared. None was wrong. A stand-in for the program that answered another price,
-a key by another name, another phrase, no `connection: close`, another clock in the record, or a floor over the leader's
-maximum to who bid too low, was found wrong each time, the last by twin runs alone too. plain_cases.py holds the plain
-site to the conformance cases.
+Promise: bytes to bytes, isolation
 """
 import collections
 import pathlib

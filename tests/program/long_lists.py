@@ -1,10 +1,12 @@
 #!/usr/bin/env python3
 """Compares lists of 0, 1, 50, 51 and 120 rows with plain lists: `long_lists.py PROGRAM WORD`.
 
-The program is that of the crate `test_store`, with `memory` for a house in memory and `sqlite` for one in SQLite. Of
-each length there are a category, a member's bids, watches, questions, sales, reserves and feedback, the questions on
-one item, and those that wait for a seller, on one item or on as many. Each list is asked for from several of its rows
-on; each answer has to be that of tests/lib/plain_house.py. The last line is 'N of N answers, M wrong'.
+The program is that of the crate `test_store`, with `memory` for a house in memory and `sqlite` for one in SQLite. Of each length
+there are a category, a member's bids, watches, questions, sales, reserves and feedback, the questions on one item, and those that
+wait for a seller, on one item or on as many. Each list is asked for from several of its rows on; each answer has to be that of
+tests/lib/plain_house.py. The last line is 'N of N answers, M wrong'.
+
+Promise: operations
 """
 import sys
 

@@ -1,13 +1,14 @@
 #!/usr/bin/env python3
-"""Civil days as the C library gives them, for the script of crates/test_values: `make_days.py asked|told`.
+"""Prints civil days as the C library gives them, for the script of crates/test_values: `make_days.py asked|told`.
 
-The lines that it writes end the section `accounts` of that crate's `stdin`, with the word `asked`, or `stdout`, with
-`told`: there each has its answer after it.
+The lines end the section `accounts` of that crate's `stdin`, with the word `asked`, or `stdout`, with `told`: there each has its
+answer after it.
 
-For each of six zone rules 200 moments: the seconds round the first midnights and the last ones,
-round the changes of daylight saving time of three years and the midnights of those days, and
-moments drawn at random (the seed is fixed). The day of a moment comes from localtime(3) under the
-environment variable TZ; `time.localtime` of Python calls it.
+For each of six zone rules 200 moments: the seconds round the first midnights and the last ones, round the changes of daylight
+saving time of three years and the midnights of those days, and moments drawn at random (the seed is fixed). The day of a moment
+comes from localtime(3) under the environment variable TZ; `time.localtime` of Python calls it.
+
+Promise: operations
 """
 import datetime
 import os

@@ -2,21 +2,17 @@
 """Sends spoiled streams of messages to the program: `mutated.py PROGRAM [COUNT [SEED [EVERY]]]`.
 
 A stream has the messages of tests/program/fuzz.py, of which some are spoiled: bits are flipped, bytes are left out, repeated or
-put in, lengths are changed, heads are spliced, fields and bodies change places. Most streams are replayed; each EVERYth
-time, 5 without it, a few go over TCP in pieces of any size to a house in a file. No process may die, or take more memory
-than MOST_MEMORY.
+put in, lengths are changed, heads are spliced, fields and bodies change places. Most streams are replayed; each EVERYth time, 5
+without it, a few go over TCP in pieces of any size to a house in a file. No process may die, or take more memory than
+MOST_MEMORY.
 
-Which messages a stream has is decided by two rules alone: a head ends at its first empty line, those before it left out,
-and a body has as many bytes as the head says. Each whole message has to be answered as tests/lib/plain_site.py answers
-the plain one that says the same, up to the first answer that ends the connection, which may tell a fault of the
-frame; what is left of a stream has to be answered one. Then the commands that were accepted are sent plainly, and have to
-be answered the same and to leave the same record, or the same rows in the file. COUNT answers are given at least, 5,000
-without it. The last line is 'N answers, M accepted, K wrong'.
+Which messages a stream has is decided by tests/lib/frame.py. Each whole message has to be answered as tests/lib/plain_site.py
+answers the plain one that says the same, up to the first answer that ends the connection, which may tell a fault of the frame;
+what is left of a stream has to be answered one. Then the commands that were accepted are sent plainly, and have to be answered
+the same and to leave the same record, or the same rows in the file. COUNT answers are given at least, 5,000 without it. The last
+line is 'N answers, M accepted, K wrong'.
 
-Seed 2026, on the proved program before reserves: 100,026 answers in 5,555 streams, some from 739 houses in files, of
-which 37,681 were accepted; and as in the gate 3,002 answers, of which 1,102 were. None was wrong. On a program that was
-built without proofs a stand-in that kept the answer back which ends a connection, and one that had a message more act
-after a broken frame, were found wrong.
+Promise: safe and total, bytes to bytes
 """
 import collections
 import copy

@@ -1,11 +1,12 @@
 #!/usr/bin/env python3
 """Plays conformance cases on the plain site alone, without a program: `plain_cases.py FOLDER:PATTERN..`.
 
-Each folder is a suite, of which the cases are played whose names fit the pattern. What plain_site.py and plain_office.py
-make of a case has to be what it has: the answers and the record of `replay`, what `import` and `statement` print
-over the house that its messages make, what `audit` and `surplus` tell. So the rules in Python, to which the program is
-held, are held to the cases themselves. Cases that tell a fault of words, files or tables are left out. The last line is
-'N cases, M left out, K wrong'.
+Each folder is a suite, of which the cases are played whose names fit the pattern. What plain_site.py and plain_office.py make of
+a case has to be what it has: the answers and the record of `replay`, what `import` and `statement` print over the house that its
+messages make, what `audit` and `surplus` tell. So the rules in Python, to which the program is held, are held to the cases
+themselves. Cases that tell a fault of words, files or tables are left out. The last line is 'N cases, M left out, K wrong'.
+
+Promise: operations
 """
 import csv
 import fnmatch

@@ -1,9 +1,11 @@
 #!/usr/bin/env python3
-"""What a script of houses and reads has to show, by the plain site: `plain_pages.py`.
+"""Compares what a script of houses and reads has to show with the plain site: `plain_pages.py [stored]`.
 
-It looks whether the section `pages` of crates/test_site/stdout, a transcript, is the one that it makes from that of the
-stdin there; `plain_pages.py stored` writes it. crates/test_site/src/page_script.rt says what a line may be. Nothing of
-ours is asked: the rules are those of plain_house.py, the pages plain_site.py's. The last line is 'N lines, M wrong'.
+It looks whether the section `pages` of crates/test_site/stdout, a transcript, is the one that it makes from that of the stdin
+there; with `stored` it writes it. crates/test_site/src/page_script.rt says what a line may be. Nothing of ours is asked: the
+rules are those of plain_house.py, the pages plain_site.py's. The last line is 'N lines, M wrong'.
+
+Promise: operations
 """
 import itertools
 import sys

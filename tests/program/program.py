@@ -1,10 +1,11 @@
 #!/usr/bin/env python3
 """Runs the program on words and devices that are right and wrong: `program.py PROGRAM`.
 
-Each case has its exit status, what goes to standard output and the line on standard error. Where
-`clap` refuses the words, its text is only looked at for where it goes and how it begins. Faults of
-each kind of line, with a number, a name or neither, are written in one call. The last line is
-'N cases, M wrong'.
+Each case has its exit status, what goes to standard output and the line on standard error. Where `clap` refuses the words, its
+text is only looked at for where it goes and how it begins. Faults of each kind of line, with a number, a name or neither, are
+written in one call. The last line is 'N cases, M wrong'.
+
+Promise: bytes to bytes
 """
 import os
 import pathlib

@@ -1,16 +1,18 @@
 #!/usr/bin/env python3
 """Raises bids in random lists: `raised.py PROGRAM [COUNT [SEED]]`.
 
-A raise is a place in a list, a maximum for the bid there, and another member. It is covered where the bid there was
-accepted, is the last accepted one of its bidder on its item, and in the end has the lead, with a step over the second
-maximum and the reserve, where there are such, at or below its own; where the new maximum is greater, and at most the
-limit; and where the other isn't the bidder. All of this is found by the plain site of tests/lib/plain_site.py alone. Where
-it holds, the list with that bid raised has to be a twin of the list for the other, by the plain site; `surplus` has to
-print `same, N replies`; and two replays have to give the other N replies which are the same, byte for byte, in answers
-which are those of the plain site, so that none is 503 or 500. Where it doesn't, `surplus` has to print `not covered`.
-Numbers that no words of the program's may have are refused. COUNT raises are tried, 1,000 without it, each in a list of
-its own, by two tables of bands; nine in twenty-one are chosen to be covered, the others miss one condition each or are
-any. New maxima are near the old, anywhere up to the limit, or at it. The last line is 'N covered, M not, K wrong'.
+A raise is a place in a list, a maximum for the bid there, and another member. It is covered where the bid there was accepted, is
+the last accepted one of its bidder on its item, and in the end has the lead, with a step over the second maximum and the reserve,
+where there are such, at or below its own; where the new maximum is greater, and at most the limit; and where the other isn't the
+bidder. All of this is found by the plain site of tests/lib/plain_site.py alone. Where it holds, the list with that bid raised has
+to be a twin of the list for the other, by the plain site; `surplus` has to print `same, N replies`; and two replays have to give
+the other N replies which are the same, byte for byte, in answers which are those of the plain site, so that none is 503 or 500.
+Where it doesn't, `surplus` has to print `not covered`. Numbers that no words of the program's may have are refused. COUNT raises
+are tried, 1,000 without it, each in a list of its own, by two tables of bands; nine in twenty-one are chosen to be covered, the
+others miss one condition each or are any. New maxima are near the old, anywhere up to the limit, or at it. The last line is 'N
+covered, M not, K wrong'.
+
+Promise: surplus
 """
 import collections
 import dataclasses

@@ -1,10 +1,12 @@
 #!/usr/bin/env python3
 """Compares a house with plain lists on random commands: `random_house.py PROGRAM WORD`.
 
-The program is that of the crate `test_store`, with `memory` for a house in memory and `sqlite` for one in SQLite. By a
-fixed seed it is given 2,000 commands, accepted or refused, and after each twentieth every look-up and list; four times it goes on with a house that
-`fill` has filled with its changes. Each answer has to be that of tests/lib/plain_house.py. The last line
-is 'N of N answers, M wrong'.
+The program is that of the crate `test_store`, with `memory` for a house in memory and `sqlite` for one in SQLite. By a fixed seed
+it is given 2,000 commands, accepted or refused, and after each twentieth every look-up and list; four times it goes on with a
+house that `fill` has filled with its changes. Each answer has to be that of tests/lib/plain_house.py. The last line is 'N of N
+answers, M wrong'.
+
+Promise: operations
 """
 import sys
 

@@ -1,9 +1,10 @@
 #!/usr/bin/env python3
 """Has a house in a file asked by clients that everybody has: `real_clients.py PROGRAM`.
 
-curl bids and reads with a body, with `Expect`, over HTTP/1.0, and twice over one connection; Python's http.client
-asks over one connection. What they read is compared with the answers of the worked bids. It needs `curl`. The last
-line is 'N checks, M wrong'.
+curl bids and reads with a body, with `Expect`, over HTTP/1.0, and twice over one connection; Python's http.client asks over one
+connection. What they read is compared with the answers of the worked bids. It needs `curl`. The last line is 'N checks, M wrong'.
+
+Promise: bytes to bytes
 """
 import http.client
 import json

@@ -1,20 +1,16 @@
 #!/usr/bin/env python3
 """Plays lists of messages in every form: `rows.py PROGRAM [CASES [COUNT [SEED]]]`.
 
-The program is that of the crate `test_store`. It plays each list over a house in memory and one in a database, message
-by message and as one list, and all four have to tell the same: the answers that are expected, whether the house is
-new before and after them, and the record.
+The program is that of the crate `test_store`. It plays each list over a house in memory and one in a database, message by message
+and as one list, and all four have to tell the same: the answers that are expected, whether the house is new before and after
+them, and the record.
 
-First the section `runs` of the stored run has to be the one of tests/lib/worked.py. Then come the cases of `replay` in the folder CASES, if there
-is one, with the answers that it has, and lists of at least COUNT random messages, 4,000 without it, some of them
-broken frames in mid-list, with the answers of tests/lib/plain_site.py. `rows.py stored` writes that section. The last line
-is 'N lists, M messages, K wrong'.
+First the section `runs` of the stored run has to be the one of tests/lib/worked.py. Then come the cases of `replay` in the folder
+CASES, if there is one, with the answers that it has, and lists of at least COUNT random messages, 4,000 without it, some of them
+broken frames in mid-list, with the answers of tests/lib/plain_site.py. `rows.py stored` writes that section. The last line is 'N
+lists, M messages, K wrong'.
 
-Seen: the 485 cases of `replay` that begin, and 60 random lists by the seed 2026: 18,278 messages in four forms each,
-none of them answered otherwise.
-
-Bodies that give up were found by the stored run: `answer` of `site` always 503, always 500, 503 to bids alone; `run`,
-`record` and `new` always `Memory`; `is_new` always false, always `Memory`.
+Promise: bytes to bytes
 """
 import pathlib
 import random

@@ -1,22 +1,18 @@
 #!/usr/bin/env python3
 """Makes houses in files and serves them over TCP: `served.py PROGRAM [CASES]`.
 
-What connections are answered has to be what `replay` answers to the same messages, also where the house is
-ended and served again between them; and each fault of `init` and `serve` has its line and its exit status.
-CASES is a folder of stored cases of `replay`, as `make cases` runs them: a house that is set up by the words
-of a case has to be answered what the case was. The last line is 'N checks, M wrong'.
+What connections are answered has to be what `replay` answers to the same messages, also where the house is ended and served again
+between them; and each fault of `init` and `serve` has its line and its exit status. CASES is a folder of stored cases of
+`replay`, as `make cases` runs them: a house that is set up by the words of a case has to be answered what the case was. The last
+line is 'N checks, M wrong'.
 
-Twenty messages come in one, three and twenty connections, and then the house is ended and served again for each, with
-a connection that is reset before it and one that goes on after what is no message. So are houses that have the worked
-rows of reserves, in tests/lib/worked.py. Outputs of both are full, and
-one is closed after its first line. Of 10,001 messages of one connection 10,000 are answered. While the last connection is
-served, another is refused. A server that is stopped while it waits for a message, or for room for its answers, goes on with them.
+Twenty messages come in one, three and twenty connections, and then the house is ended and served again for each, with a
+connection that is reset before it and one that goes on after what is no message. So are houses that have the worked rows of
+reserves, in tests/lib/worked.py. Outputs of both are full, and one is closed after its first line. Of 10,001 messages of one
+connection 10,000 are answered. While the last connection is served, another is refused. A server that is stopped while it waits
+for a message, or for room for its answers, goes on with them.
 
-Bodies that give up, put in by hand in a program that was built without proofs, were found by this script, program.py
-and house_file.py: the runs of `init`, `serve` and `replay` always each fault, at their end and at their beginning,
-with each wrong exit status; a line that isn't printed, an output that failed and is passed over, a record in the place of
-none and none in its place, one connection or message less; 1, 1,000 and 20,000 messages of a connection. `created`
-printed before the keep is ended is found by stopped_calls.py alone.
+Promise: bytes to bytes
 """
 import contextlib
 import os

@@ -1,10 +1,10 @@
 #!/usr/bin/env python3
-"""Serves the houses of the section `pages` of the script of crates/test_site from files and from memory: `served_pages.py PROGRAM`.
+"""Serves the houses of the section `pages` of crates/test_site from files and from memory: `served_pages.py PROGRAM`.
 
-Each page has to be what is in that crate's stdout, and so does the record that ends a house, which a replay shows.
-The last line is 'N checks, M wrong'.
+Each page has to be what is in that crate's stdout, and so does the record that ends a house, which a replay shows. The last line
+is 'N checks, M wrong'.
 
-Those are 295 checks.
+Promise: bytes to bytes
 """
 import dataclasses
 import pathlib

@@ -1,12 +1,12 @@
 #!/usr/bin/env python3
 """Has clients that stall in front of one that asks: `stalls.py PROGRAM`, for some two minutes.
 
-Connections are served one after the other, so who sends nothing, or reads none of its answers, holds up all others
-until nothing has moved for 30 seconds; then the next is answered. What a write had taken by then counts as a move, so
-the second may hold them up for some times 30 seconds. Who goes on sending after its last answer, a byte now and then,
-holds up the others for a minute at most. The last line is 'N checks, M wrong'.
+Connections are served one after the other, so who sends nothing, or reads none of its answers, holds up all others until nothing
+has moved for 30 seconds; then the next is answered. What a write had taken by then counts as a move, so the second may hold them
+up for some times 30 seconds. Who goes on sending after its last answer, a byte now and then, holds up the others for a minute at
+most. The last line is 'N checks, M wrong'.
 
-The first took 30 seconds, the second 94, the third a second.
+Promise: none
 """
 import contextlib
 import pathlib

@@ -1,8 +1,10 @@
 #!/usr/bin/env python3
 """Plays the section `houses` of a stored run on houses in memory alone: `stored_house.py PROGRAM`.
 
-The program is that of the crate `test_store`, with the word `memory`. Each line has to be the one that is in that
-crate's stdout. The last line is 'N lines, M wrong'.
+The program is that of the crate `test_store`, with the word `memory`. Each line has to be the one that is in that crate's stdout.
+The last line is 'N lines, M wrong'.
+
+Promise: operations
 """
 import itertools
 import pathlib

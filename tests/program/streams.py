@@ -1,15 +1,17 @@
 #!/usr/bin/env python3
 """Runs the program over streams that are whole, cut, in pieces or fail: `streams.py PROGRAM`.
 
-Each has to be answered what the house's rules say, worked out by hand, and by the fault of its frame where
-it goes on with what is no message. Reads are made short, and failed in turn, by short_reads.c, which needs a C
-compiler, `cc`. The last line is 'N streams, M wrong'.
+Each has to be answered what the house's rules say, worked out by hand, and by the fault of its frame where it goes on with what
+is no message. Reads are made short, and failed in turn, by short_reads.c, which needs a C compiler, `cc`. The last line is 'N
+streams, M wrong'.
 
-Among them: streams cut after each byte, with the record where it is the first message; in pieces; of 10,001 bids; with
-each read failed in turn. Heads of 8,191, 8,192 and 8,193 bytes by their target, by a field, by empty lines first, and
-before the longest body. 36 broken frames, first and after a bid, the known ways in which two readers are made to see
-different messages among them: two lengths, a length and a coding, folded lines, a bare CR, a space before the colon,
-signs and lists in a length. Ten bodies that are no object, messages among them.
+Among them: streams cut after each byte, with the record where it is the first message; in pieces; of 10,001 bids; with each read
+failed in turn. Heads of 8,191, 8,192 and 8,193 bytes by their target, by a field, by empty lines first, and before the longest
+body. 36 broken frames, first and after a bid, the known ways in which two readers are made to see different messages among them:
+two lengths, a length and a coding, folded lines, a bare CR, a space before the colon, signs and lists in a length. Ten bodies
+that are no object, messages among them.
+
+Promise: bytes to bytes
 """
 import contextlib
 import os

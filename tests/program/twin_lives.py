@@ -1,20 +1,19 @@
 #!/usr/bin/env python3
 """Plays pairs of twins as lives of houses in files: `twin_lives.py PROGRAM [PAIRS [SEED]]`.
 
-A pair are two random lists that are twins for a member, as twins.py finds them, each followed by the member's looks at
-all its pages and the public ones. Each list is played on a house in a file, over servers that end: by their count, by
-SIGKILL when all is answered, or by SIGKILL with one message in flight, which is kept or lost. Then the same file is
-served again. The servers of both houses end at the same places, or at others. Whether a message in flight is there is
-read off all pages, which have to be those of the plain site with it or without it; one that changes nothing counts as
-kept. The pair counts where, with the messages that are there, what is public and what waits for the member agree after
-each message, and the member's own messages are the same: then what the member was answered in both has to be the same,
-byte for byte. Every answer of every list has to be the plain site's.
+A pair are two random lists that are twins for a member, as twins.py finds them, each followed by the member's looks at all its
+pages and the public ones. Each list is played on a house in a file, over servers that end: by their count, by SIGKILL when all is
+answered, or by SIGKILL with one message in flight, which is kept or lost. Then the same file is served again. The servers of both
+houses end at the same places, or at others. Whether a message in flight is there is read off all pages, which have to be those of
+the plain site with it or without it; one that changes nothing counts as kept. The pair counts where, with the messages that are
+there, what is public and what waits for the member agree after each message, and the member's own messages are the same: then
+what the member was answered in both has to be the same, byte for byte. Every answer of every list has to be the plain site's.
 
-As controls, lists in which a message of the member is another, and lists that lose a message of another that is public,
-are played beside the first: some of each have to show the member a difference. PAIRS pairs are played that count, 1,000
-without it; what a kill decides is not decided by SEED. The last line is 'N pairs of twins, M answers alike, K wrong'.
+As controls, lists in which a message of the member is another, and lists that lose a message of another that is public, are
+played beside the first: some of each have to show the member a difference. PAIRS pairs are played that count, 1,000 without it;
+what a kill decides is not decided by SEED. The last line is 'N pairs of twins, M answers alike, K wrong'.
 
-A stand-in that lost the log of its file where it was started again, or the watches, was found wrong.
+Promise: isolation
 """
 import collections
 import dataclasses

@@ -1,13 +1,14 @@
 #!/usr/bin/env python3
 """Audits pairs of random lists: `twins.py PROGRAM [EQUAL [APART [SEED]]]`.
 
-EQUAL pairs, 1,000 without it, differ in what others than the member have sealed, maxima, reserves, watches and
-questions that wait, and agree in what is public and in what waits for the member: `audit` has to print `equal, N
-replies`, and two replays have to give the member N replies which are the same, byte for byte, in answers which are
-those of the plain site, so that none is 503 or 500. APART pairs, 1,000 too, differ at some step for the member: `audit`
-has to print `apart at step K`, the first at which the plain site of tests/lib/plain_site.py finds the lists of another
-length, a message of the member's another, or the record or what waits for it another. A file with a broken frame is no
-list. The last line is 'N equal, M apart, K wrong'.
+EQUAL pairs, 1,000 without it, differ in what others than the member have sealed, maxima, reserves, watches and questions that
+wait, and agree in what is public and in what waits for the member: `audit` has to print `equal, N replies`, and two replays have
+to give the member N replies which are the same, byte for byte, in answers which are those of the plain site, so that none is 503
+or 500. APART pairs, 1,000 too, differ at some step for the member: `audit` has to print `apart at step K`, the first at which the
+plain site of tests/lib/plain_site.py finds the lists of another length, a message of the member's another, or the record or what
+waits for it another. A file with a broken frame is no list. The last line is 'N equal, M apart, K wrong'.
+
+Promise: isolation
 """
 import collections
 import dataclasses

@@ -4,6 +4,8 @@
 Each rule is given a quarter of an hour in which its signal is well, and one in which it is not, and has to be silent in the first
 and to fire in the second. A signal that nobody gives has to fire as well. promtool is of Debian's package prometheus. The last
 line is 'N checks, M wrong'.
+
+Promise: none
 """
 import json
 import pathlib

@@ -1,27 +1,30 @@
 #!/usr/bin/env python3
-"""Runs the gateway of examples/gateway over the program, and drives it: `gateway.py PROGRAM [SECONDS] [RESTARTS]`.
+"""Runs the gateway of examples/gateway over the program, and drives it: `gateway.py PROGRAM [SECONDS [RESTARTS]]`.
 
-start.sh, first_bids.sh, account.sh and stop.sh run as an ordinary user: as nobody where a superuser runs this. Then
-signed-in clients show what the page of the gateway says:
+start.sh, first_bids.sh, account.sh and stop.sh run as an ordinary user: as nobody where a superuser runs this. Then signed-in
+clients show what the page of the gateway says:
 
 - who isn't signed in gets 401, and who is can't speak for another by any spelling of the two headers
-- members sign in by the form and out again, choose a password, and are kept out by account.sh; a run of it that was
-  killed is ended by the next; on a phone's width too, where chromedriver is there
+- members sign in by the form and out again, choose a password, and are kept out by account.sh; a run of it that was killed is
+  ended by the next; on a phone's width too, where chromedriver is there
 - odd messages have each their status: two lengths, a length and a coding, chunks, HEAD, too large ones
-- of 242 hostile requests the house sees what a member meant, as its own and now, or nothing (gateway_hostile.py)
+- of 242 hostile requests the house sees what a member meant, as its own and now, or nothing (parts/gateway_hostile.py)
 - pages of other sites bid for nobody; in Chromium too, where chromedriver is there
 - another user of the machine reaches neither the house nor its queue; a house that was made open to others is shut
 - 50 clients for SECONDS (60 where none are given), and 300 for a third of them, lose nothing and see no MomentBehind
-- 60 clients that dribble hold nobody up; nor do 4,000 connections that say nothing, 50,000 wrong passwords of a member
-  from its own address, wrong ones from 200 addresses, and a member or a stranger that asks as fast as it can from 40
+- 60 clients that dribble hold nobody up; nor do 4,000 connections that say nothing, 50,000 wrong passwords of a member from its
+  own address, wrong ones from 200 addresses, and a member or a stranger that asks as fast as it can from 40
 - the kernel lets a hundred connections of an address in, by connections.nft, where nft is there
 - RESTARTS restarts (20 where none are given) under 50 clients, one of them by SIGKILL, lose no answer
-- houses behind one gateway are distinguished by host name, and each comes and goes alone: one whose file is damaged
-  keeps none of the others down, and haproxy and Apache are begun again when they end
+- houses behind one gateway are distinguished by host name, and each comes and goes alone: one whose file is damaged keeps none of
+  the others down, and haproxy and Apache are begun again when they end
 - what is due is closed, and what was taken is there after stop.sh and start.sh
 - no command is let through while the house's clock and the machine's are more than a day apart
 
-It needs nginx, haproxy, apache2, htpasswd, sqlite3, openssl, curl, ip, setsid, flock and unshare. The last line is 'N checks, M wrong'.
+It needs nginx, haproxy, apache2, htpasswd, sqlite3, openssl, curl, ip, setsid, flock and unshare. The last line is 'N checks, M
+wrong'.
+
+Promise: none
 """
 import socket
 import sys

@@ -1,10 +1,12 @@
 #!/usr/bin/env python3
-"""Has pages of one item open in its last minute, while a member bids: `gateway_load.py PROGRAM [PAGES] [SECONDS]`.
+"""Has pages of one item open in its last minute, while a member bids: `gateway_load.py PROGRAM [PAGES [SECONDS]]`.
 
-A page takes two reads a second, the item and the member's own bids, over two connections: the second one because
-somebody bids. Sixty members have 1,000 pages open where no number is given, for 30 seconds. It prints how soon reads
-were answered, as wrk counts them, and how soon the bids of another member were, each of which has to be taken within a
-second. It needs wrk, and what gateway.py needs. The last line is 'N checks, M wrong'.
+A page takes two reads a second, the item and the member's own bids, over two connections: the second one because somebody bids.
+Sixty members have 1,000 pages open where no number is given, for 30 seconds. It prints how soon reads were answered, as wrk
+counts them, and how soon the bids of another member were, each of which has to be taken within a second. It needs wrk, and what
+gateway.py needs. The last line is 'N checks, M wrong'.
+
+Promise: none
 """
 import collections
 import itertools

@@ -2,19 +2,22 @@
 """Makes the Debian package and tries it: `package.py PROGRAM FOLDER [DEBIAN]`.
 
 build.sh of examples/package makes it in FOLDER, twice the same bytes. lintian has to say nothing of it, where lintian is there.
-Each file that nginx's files include is in it. Each link of the documents in the package leads to a file of it, and bash
-completes what the program's help has. Where a superuser runs this, and debootstrap and systemd-nspawn are there, a plain Debian
-boots that has no more than what the package names, and plain_debian.sh tries the package there: an older one is installed,
-which lacks a line of nginx's files; two cities are set up, members sign in by the form and bid through nginx, the house ends in
-three ways, and timers close an item, list all items and have a member mailed. One house has a full disk for a moment and is then
-damaged, beside the other, and its watch, its alarm and Debian's Prometheus tell. The newer package is installed over the older
-one, has to run at once, and lets those in who signed in by the browser's own window; a clock that was far ahead, and one that is
-days behind, let no command through, until a copy is restored, or somebody says that the clock is right; a city is taken over
-from a server that ends; a copy is taken; and the package is removed, installed again and purged. Then such a Debian that never
-had a house boots, and fresh_debian.sh restores the city from the copy, whose members sign in as before. In a third one a new
-user does what the page of the gateway says, without the package. DEBIAN is the folder of
-that Debian; one that isn't there is made from Debian's archive, in some minutes, and kept. The last line is
-'N checks, M wrong'.
+Each file that nginx's files include is in it. Each link of the documents in the package leads to a file of it, and bash completes
+what the program's help has.
+
+Where a superuser runs this, and debootstrap and systemd-nspawn are there, a plain Debian boots that has no more than what the
+package names, and debian/plain_debian.sh tries the package there: an older one is installed, which lacks a line of nginx's files;
+two cities are set up, members sign in by the form and bid through nginx, the house ends in three ways, and timers close an item,
+list all items and have a member mailed. One house has a full disk for a moment and is then damaged, beside the other, and its
+watch, its alarm and Debian's Prometheus tell. The newer package is installed over the older one, has to run at once, and lets
+those in who signed in by the browser's own window; a clock that was far ahead, and one that is days behind, let no command
+through, until a copy is restored, or somebody says that the clock is right; a city is taken over from a server that ends; a copy
+is taken; and the package is removed, installed again and purged. Then such a Debian that never had a house boots, and
+debian/fresh_debian.sh restores the city from the copy, whose members sign in as before. In a third one a new user does what the
+page of the gateway says, without the package. DEBIAN is the folder of that Debian; one that isn't there is made from Debian's
+archive, in some minutes, and kept. The last line is 'N checks, M wrong'.
+
+Promise: none
 """
 import os
 import pathlib
@@ -136,7 +139,7 @@ def has_documents(package):
 
 
 def completed(*words):
-    result = subprocess.run(["bash", WEB / "completion.sh", "auction", *words], capture_output=True, text=True)
+    result = subprocess.run(["bash", WEB / "parts" / "completion.sh", "auction", *words], capture_output=True, text=True)
     return set(result.stdout.split())
 
 

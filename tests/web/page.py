@@ -1,30 +1,30 @@
 #!/usr/bin/env python3
 """Drives the page of examples/gateway in Chromium: `page.py PROGRAM [PICTURES]`.
 
-The house, a seller and two who bid play an auction from its listing to its statement, each in a browser of its own, over
-a house with some history behind nginx and haproxy. They find all by roles and names of the accessibility tree alone.
+The house, a seller and two who bid play an auction from its listing to its statement, each in a browser of its own, over a house
+with some history behind nginx and haproxy. They find all by roles and names of the accessibility tree alone. The files that are
+named lie in parts/, and page_looks.js in lib/.
 
-- a whole bid by the keyboard; a purchase after a second question; a button that waits while the house is still, and
-  bids once
-- nobody is sent a digit of what another has sealed, a maximum or a reserve: in no answer, nowhere on a page, and in no
-  file that is written for all (page_sealed.py)
+- a whole bid by the keyboard; a purchase after a second question; a button that waits while the house is still, and bids once
+- nobody is sent a digit of what another has sealed, a maximum or a reserve: in no answer, nowhere on a page, and in no file that
+  is written for all (page_sealed.py)
 - what one won and listed, accounts, settling, a new band table, the city's own words (page_pages.py)
 - mails and other notices, each once, to whom they concern (page_notices.py)
 - the catalogue has all items, is written whole or not at all, and the page does without it (page_catalogue.py)
 - the countdown goes by the gateway's clock, also where the browser's is an hour wrong
 - names and texts that would do harm as HTML stay text, and turn nothing around them
-- all parts, light and dark, 360, 390 and 1280 wide: names, roles, contrast, sizes, nothing wider than the window
-  (page_looks.js)
+- all parts, light and dark, 360, 390 and 1280 wide: names, roles, contrast, sizes, nothing wider than the window (page_looks.js)
 - the console has nothing of the page's own making
 - the file of a statement is the program's own, and the public record is what all reads tell
 - of many items and bids the youngest are shown, and the others when they are asked for
 - amounts, zones (beside the C library) and refusals (page_words.py)
 - all of it in German, its mails too, by one word of the city's (page_german.py)
-- what the page says is true at once: after an outbid, an end, a failed read, a lost answer, a sleep, a way back
-  (page_truth.py)
+- what the page says is true at once: after an outbid, an end, a failed read, a lost answer, a sleep, a way back (page_truth.py)
 
-PICTURES is a folder for pictures of some parts. It needs what gateway.py needs, and chromedriver. The last line is
-'N checks, M wrong'.
+PICTURES is a folder for pictures of some parts. It needs what gateway.py needs, and chromedriver. The last line is 'N checks, M
+wrong'.
+
+Promise: none
 """
 import contextlib
 import os

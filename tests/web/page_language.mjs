@@ -1,5 +1,9 @@
-// The words of the page: `node --test tests/web/page_language.mjs`. Both languages have the same keys and the same places for
-// values, each key is used, and no sentence that a member sees stands anywhere else.
+// Compares the words of the page in its languages: `node --test tests/web/page_language.mjs`.
+//
+// Both languages have the same keys and the same places for values, each key is used, and no sentence that a member sees stands
+// anywhere else.
+//
+// Promise: none
 import assert from "node:assert/strict";
 import { readFileSync, readdirSync } from "node:fs";
 import { test } from "node:test";

@@ -1,5 +1,9 @@
-// What the page makes of amounts, zones, moments, refusals and spreadsheets, without a browser and in both languages:
-// `node --test tests/web/page_modules.mjs`. page_words.py holds zones and amounts against the C library in the browser.
+// Tests what the page makes of amounts, zones, moments and refusals: `node --test tests/web/page_modules.mjs`.
+//
+// And of spreadsheets; without a browser, and in both languages. parts/page_words.py holds zones and amounts against the C library
+// in the browser.
+//
+// Promise: none
 import assert from "node:assert/strict";
 import { readFileSync } from "node:fs";
 import { beforeEach, test } from "node:test";

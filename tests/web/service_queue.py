@@ -2,11 +2,14 @@
 """Asks a house through the queue of examples/gateway, as the service runs it: `service_queue.py PROGRAM`.
 
 haproxy is started with queue.cfg before a house in a file. 12,000 commands of ten clients at once go through it, none of which is
-lost where the house ends a connection after 10,000 messages, since the queue has it end each after 5,000. A command is taken after the kept connection was idle for longer than the house
-waits, and after the house was killed and started again. Where the clock of the house and that of the machine are three days
-apart, either way, no command is let through, but for one that says that the clock is right, and reads are. A house whose
-file may not grow has a line for its 500, after which the queue leaves its connection, so that it ends. Once it is started again it
-takes a command. haproxy is of Debian's package. The last line is 'N checks, M wrong'.
+lost where the house ends a connection after 10,000 messages, since the queue has it end each after 5,000. A command is taken
+after the kept connection was idle for longer than the house waits, and after the house was killed and started again. Where the
+clock of the house and that of the machine are three days apart, either way, no command is let through, but for one that says that
+the clock is right, and reads are. A house whose file may not grow has a line for its 500, after which the queue leaves its
+connection, so that it ends. Once it is started again it takes a command. haproxy is of Debian's package. The last line is 'N
+checks, M wrong'.
+
+Promise: none
 """
 import collections
 import concurrent.futures

@@ -1,1 +1,1 @@
-"""What gateway.py and page.py are made of, and the programs that they have run in another's place."""
+"""What gateway.py and page.py are made of, and what package.py and these have run."""

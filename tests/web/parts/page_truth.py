@@ -1,4 +1,4 @@
-"""What a page says has to be true at once: on each of these it was found to say what was true no more, or never.
+"""What a page says has to be true at once, after whatever others do and whatever goes wrong.
 
 Others act by the interface itself. A script that is there before the page's own lets reads fail, loses the answer to a
 command that the house has taken, and lets a minute pass in six seconds.
