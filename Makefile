@@ -143,6 +143,7 @@ demo:
 
 test:
 	if command -v shellcheck > /dev/null; then shellcheck -x -P SCRIPTDIR $(SCRIPTS); fi
+	python3 tests/kit/judges.py
 	python3 tests/kit/giving_up.py --texts
 	python3 tests/kit/run.py rt ci
 

@@ -11,8 +11,10 @@ def lines(text):
 
 
 def section(text, name):
-    """A section of a script or a transcript, without the line by which it begins."""
-    _, _, rest = text.partition(f"{SECTION}{name}\n")
+    """A section of a script or a transcript, which has to be there, without the line by which it begins."""
+    _, begin, rest = text.partition(f"{SECTION}{name}\n")
+    if not begin:
+        raise ValueError(f"no section {name}")
     return rest.partition(SECTION)[0]
 
 
