@@ -55,7 +55,7 @@ put_documents() {
     put usr/share/doc/auction/docs ../docs/*.md ../docs/*.png ../docs/openapi.yaml
     put usr/share/doc/auction/bench ../bench/README.md ../bench/TABLE.md ../bench/figures.json
     # Sources aren't in the package, so no link leads to one.
-    sed -i 's,\[\([^]]*\)\](\(\.\./\)*crates/[^)]*),\1,g' "$documents"/docs/*.md
+    sed -i 's,\[\([^]]*\)\](\(\.\./\)*\(crates\|tests\)/[^)]*),\1,g' "$documents"/docs/*.md
     for part in service backup gateway replica; do
         put "usr/share/doc/auction/examples/$part" "$part"/*.md
     done

@@ -1,14 +1,16 @@
 #!/usr/bin/env python3
 """Reads the documents of the repository: `documents.py [PROGRAM]`.
 
-Each link leads to a file and a heading that are there. Each file that is named between backticks is there, by its path
-or the end of it. Each name of code in the pages on promises, definitions, crates and changes and in GLOSSARY.md is a
-word of some source, and each wrong body there has its file. Each block of Rust is text of some source. CLAUSES.md is
-what clauses.py makes; PROMISES.md lists the ported crates as ported.py does, and counts definitions as definitions.py
-does. README.md and the pages of docs/ and examples/ have no line over 100 columns outside tables and Rust. Whatever shows
-how a house is made shows it under umask 077. figures.py, where it is there, finds no wrong figure. The manual
-docs/auction.1 has no line over 80 columns, and no fault that mandoc finds, where mandoc is there. It has each command of
-PROGRAM with all its files, options and ranges, as the help tells them, and no other. The last line is 'N checks, M wrong'.
+Each link leads to a file and a heading that are there. Each file that is named between backticks is there, by its path or the end
+of it. Each name of code in the pages on promises, definitions, crates and changes and in GLOSSARY.md is a word of some source,
+and each wrong body there has its file. Each block of Rust is text of some source. README.md and the pages of docs/, examples/ and
+tests/ have no line over 100 columns outside tables and Rust. Whatever shows how a house is made shows it under umask 077. The
+pages that clauses.py and list_tests.py make are those that they make; PROMISES.md has what ported.py and definitions.py print;
+and figures.py finds no wrong figure. The manual docs/auction.1 has no line over 80 columns, and no fault that mandoc finds, where
+mandoc is there. It has each command of PROGRAM with all its files, options and ranges, as the help tells them, and no other. The
+last line is 'N checks, M wrong'.
+
+Promise: none
 """
 import pathlib
 import re
@@ -19,7 +21,7 @@ import sys
 from lib.checks import claim, verdict
 from lib.places import ROOT
 
-PAGES = [*(ROOT / name for name in ("README.md", "CHANGELOG.md", "CONTRIBUTING.md", "bench/README.md")),
+PAGES = [*(ROOT / name for name in ("README.md", "CHANGELOG.md", "CONTRIBUTING.md", "bench/README.md", "tests/README.md")),
          *sorted((ROOT / "docs").glob("*.md")), *sorted((ROOT / "examples").glob("*/*.md"))]
 OF_CODE = [f"docs/{name}.md" for name in ("ARCHITECTURE", "CHANGING", "DEFINITIONS", "GLOSSARY", "LAYERS", "PROMISES", "PROOFS")]
 MANUAL = ROOT / "docs" / "auction.1"
@@ -112,6 +114,7 @@ def ran(script, *words):
 def made_pages():
     """What other scripts make of the sources, and compare, is in the pages."""
     ran("clauses.py", "--check")
+    ran("../kit/list_tests.py", "--check")
     ran("figures.py")
     promises = " ".join((ROOT / "docs" / "PROMISES.md").read_text().split())
     for script in ("ported.py", "definitions.py"):
