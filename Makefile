@@ -7,8 +7,9 @@ DESCRIBED = editions surplus-with-reserves
 
 # How many messages the fuzz sends at least, how many answers spoiled ones have to get, how many pairs of lists are audited
 # that are equal and that are apart, how often a server is killed, how many rows a lot file has, and the seed that chooses
-# them; that each EVERYth call on files stops, or has a power cut after it; the crates whose wrong bodies make wrong
-# tries, all where there are none; and the bodies that make giving puts in, eight where there are none.
+# them; that each EVERYth call on files stops, or has a power cut after it, and each EVERYth value is spoiled; the
+# crates whose wrong bodies make wrong tries, all where there are none; and the bodies that make giving puts in, eight where
+# there are none.
 MESSAGES ?= 5000
 MUTATED ?= 100000
 KILLS ?= 200
@@ -46,8 +47,8 @@ SERVICE_PACKAGES = prometheus haproxy
 DEB_PACKAGES = lintian debootstrap systemd-container
 
 .PHONY: help demo session test auction program cases rows fuzz mutated twins memory allocations statement random file \
-	office kills stops cuts stalls counts wrong giving axioms documents openapi gateway load page backup service replica disks deb \
-	packages
+	columns office kills stops cuts stalls counts wrong giving axioms documents openapi gateway load page backup service replica \
+	disks deb packages
 
 help:
 	@echo "For a newcomer"
@@ -76,6 +77,7 @@ help:
 	@echo "                 raises a bid in PAIRS random lists, and plays PAIRS on houses that are killed and started again"
 	@echo "  make file      makes houses in files, opens, copies, damages and upgrades them, kills who serves, and reads them with"
 	@echo "                 sqlite3"
+	@echo "  make columns   spoils each column of each table, by each value or each EVERYth, and asks everything of each such house"
 	@echo "  make office    imports lot files, one of ROWS rows, and reads statements"
 	@echo "  make kills     kills who serves a house KILLS times at random moments, and who upgrades one, and looks what is in its"
 	@echo "                 file"
@@ -129,7 +131,7 @@ has-tests:
 
 demo test auction wrong giving axioms: has-kit
 session: has-bin has-curl
-program cases fuzz mutated twins memory allocations file office kills stops cuts stalls counts documents: has-program
+program cases fuzz mutated twins memory allocations file columns office kills stops cuts stalls counts documents: has-program
 gateway load page backup service replica disks deb: has-program
 rows random file statement memory allocations: has-tests
 cases openapi: has-cases
@@ -225,6 +227,9 @@ file:
 	python3 tests/files/spoiled_house.py crates/auction/out/auction
 	python3 tests/files/bad_files.py crates/auction/out/auction
 	python3 tests/files/upgrades.py crates/auction/out/auction
+
+columns:
+	python3 tests/files/spoiled_columns.py crates/auction/out/auction $(EVERY)
 
 office:
 	python3 tests/office/lots.py crates/auction/out/auction $(ROWS) $(SEED)

@@ -4,7 +4,8 @@
 A client sends commands one after the other, each of which makes one row, and counts those that were answered. The server is
 killed by SIGKILL, and the house's file with its log has to be sound for SQLite, and to hold what the commands that were answered
 make, each item with its reserve, or one command more: the rows of a house that took as many and was never killed. Then the same
-file is served again. This shows a killed process, not a power cut: what was written is there though nobody had synced it.
+file is served again. This shows a killed process, not a power cut: what was written is there though nobody had synced it. A
+quarter as many servers are killed over a house in which the row of the first item is one of no house's, which stays as it is.
 
 As many upgrades of each house of version 1 that is kept are killed within the time that one takes. Each leaves the house as it
 was, or upgraded, and it is then upgraded, or of version 2. A line tells how many left which. KILLS is 200 without it. The last
@@ -23,11 +24,13 @@ import time
 from lib.checks import check, verdict
 from lib.first_version import IS_VERSION_2, UPGRADED, found, laid, upgraded
 from lib.growing import Client, commands, made
-from lib.house_files import rows
+from lib.house_files import change, rows
 from lib.serving import SETTINGS, Program, served
 
 # The most that passes before a server is killed, in seconds.
 LONGEST = 0.08
+# After how many commands a row is spoiled that no later one names: the price of an item is then that of no bids.
+SPOILED = 8, "UPDATE item SET price = price + 1 WHERE id = 1"
 
 
 class Kills:
@@ -36,8 +39,19 @@ class Kills:
         self.texts, self.cached = commands(), []
         self.answered = self.whole = self.more = 0
         for file in ("killed", "whole"):
+            for ending in ("", "-wal"):
+                (folder / (file + ending)).unlink(missing_ok=True)
             check(f"{file} made", program.ended("init", file, "--bands", "bands.csv", *SETTINGS),
                   (0, b"created\n", b""))
+
+    def spoil(self, count, statement):
+        """Has both houses take so many commands, and a row of each spoiled."""
+        stream = b"".join(self.text(number) for number in range(count))
+        for file in ("killed", "whole"):
+            _, ending = self.program.answers(file, [stream])
+            check("spoiled later", ending, served(1))
+            change(self.folder / file, statement)
+        self.answered = self.whole = count
 
     def text(self, place):
         while len(self.cached) <= place:
@@ -105,17 +119,23 @@ def main():
     with tempfile.TemporaryDirectory() as path:
         folder = pathlib.Path(path)
         (folder / "bands.csv").write_text("at,step\n0,5\n100,25\n500,50\n")
-        run = Kills(Program(str(pathlib.Path(sys.argv[1]).resolve()), path), folder, seed)
-        for _ in range(kills):
-            run.kill_once()
-            run.look()
+        program = Program(str(pathlib.Path(sys.argv[1]).resolve()), path)
+        answered = more = 0
+        for times, spoiled in ((kills, ()), (-(-kills // 4), SPOILED)):
+            run = Kills(program, folder, seed)
+            if spoiled:
+                run.spoil(*spoiled)
+            for _ in range(times):
+                run.kill_once()
+                run.look()
+            answered, more = answered + run.answered, more + run.more
         for kept in ("house", "stopped"):
-            upgrades = Upgrades(run.program, folder, seed, kept)
+            upgrades = Upgrades(program, folder, seed, kept)
             for _ in range(kills):
                 upgrades.kill_once()
             print(f"{kills} upgrades of {kept}: {upgrades.left[1]} of version 1, {upgrades.left[2]} of version 2, of which "
                   f"{upgrades.reported} had reported so")
-    return verdict(f"{kills} kills, {run.answered} commands, {run.more} of them more than answered")
+    return verdict(f"{kills + -(-kills // 4)} kills, {answered} commands, {more} of them more than answered")
 
 
 if __name__ == "__main__":

@@ -7,8 +7,9 @@ half. In the opening, `serve` ends with `file: Store`. Else the answer is the co
 and a command on its connection are answered so too, no other connection is taken, and `serve` ends with `file: Store`. The files
 that are left, as they are and without what was not synced, are opened again: SQLite finds a sound database, both it and the
 program find the house before the command or after it, after it where that was answered as accepted, and the program takes another
-command. Of an upgrade they find the house as it was or upgraded, and that where it was reported. The last lines tell what was
-found by command, and 'S stops, W wrong'.
+command. Of an upgrade they find the house as it was or upgraded, and that where it was reported. The last five commands are
+stopped again, each fourth of these times, over a house in which a row that they don't name is one of no house's: it stays so. The
+last lines tell what was found by command, and 'S stops, W wrong'.
 
 Promise: bytes to bytes
 """
@@ -17,7 +18,7 @@ import socket
 import sys
 
 from lib.checks import check, verdict
-from lib.file_calls import COMMANDS, NONE, Disk, Versions, prepared
+from lib.file_calls import COMMANDS, NONE, SPOILED, Disk, Versions, prepared
 from lib.first_version import UPGRADED
 from lib.growing import Client
 from lib.sent import next_answer
@@ -123,16 +124,22 @@ class Stops:
 
 
 def main():
+    every = int(sys.argv[2]) if len(sys.argv) > 2 else 1
     with prepared(sys.argv[1]) as calls:
-        stops = Stops(calls, int(sys.argv[2]) if len(sys.argv) > 2 else 1)
+        stops = Stops(calls, every)
         stops.make()
         for place in range(len(COMMANDS)):
             stops.serve(place)
         for kept in ("house", "stopped"):
             stops.upgrade(kept)
-    for name, found in stops.found.items():
-        print(f"{name}: {found['before']} before, {found['after']} after")
-    return verdict(f"{stops.stops} stops")
+    with prepared(sys.argv[1], SPOILED) as calls:
+        spoiled = Stops(calls, 4 * every)
+        for place in range(SPOILED[0], len(COMMANDS)):
+            spoiled.serve(place)
+    for house, run in (("", stops), (", a row spoiled", spoiled)):
+        for name, found in run.found.items():
+            print(f"{name}{house}: {found['before']} before, {found['after']} after")
+    return verdict(f"{stops.stops + spoiled.stops} stops")
 
 
 if __name__ == "__main__":

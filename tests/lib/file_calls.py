@@ -11,7 +11,7 @@ import tempfile
 
 from lib.checks import check
 from lib.first_version import IS_VERSION_2, UPGRADED, found, laid, upgraded
-from lib.house_files import rows
+from lib.house_files import change, rows
 from lib.places import LIB
 from lib.serving import MESSAGES, READS, SETTINGS, SIGHTS, Program, exchange, fault, message, served
 
@@ -23,6 +23,8 @@ COMMANDS[CLOSE:CLOSE] = [
             '{"category":1,"end":5000,"lot":"%s","reserve":%s,"start":500,"text":"","title":"Map"}' % row)
     for row in (("C3", "900"), ("D4", "null"))]
 NEXT = message("POST", "/members", 0, 9000, '{"name":"Zoe"}')
+# After how many commands a row is spoiled that no later one names: item 2 was bought at another price.
+SPOILED = 13, "UPDATE item SET price = price + 1 WHERE id = 2"
 BANDS = "at,step\n0,5\n100,25\n500,50\n"
 FILES = ("", "-wal")
 # A device finishes each sector that it begins.
@@ -77,10 +79,11 @@ class Disk:
 
 
 class Calls:
-    """The program in a folder, and the same with its calls on files noted."""
+    """The program in a folder, and the same with its calls on files noted. Where a row is spoiled after so many commands, by a
+    statement, it is so in each house that took as many or more."""
 
-    def __init__(self, path, folder, library):
-        self.folder, self.library = pathlib.Path(folder).resolve(), library
+    def __init__(self, path, folder, library, spoiled=None):
+        self.folder, self.library, self.spoiled = pathlib.Path(folder).resolve(), library, spoiled
         (self.folder / "bands.csv").write_text(BANDS)
         self.trace = self.folder / "calls"
         self.trace.touch()
@@ -121,6 +124,8 @@ class Calls:
         check("made", self.program.ended("init", "state", *self.init), (0, b"created\n", b""))
         _, ending = self.program.answers("state", [b"".join(COMMANDS[:count])])
         check("ended", ending, served(1))
+        if self.spoiled and count >= self.spoiled[0]:
+            change(self.folder / "state", self.spoiled[1])
         files = self.contents("state")
         replies, ending = self.program.answers("state", [b"".join(SIGHTS)])
         check("ended again", ending, served(1))
@@ -173,9 +178,9 @@ class Versions:
 
 
 @contextlib.contextmanager
-def prepared(path):
+def prepared(path, spoiled=None):
     """The program of a path in a folder that goes again."""
     with tempfile.TemporaryDirectory() as folder:
         library = f"{folder}/calls.so"
         subprocess.run(["cc", "-shared", "-fPIC", "-O1", "-o", library, str(LIB / "file_calls.c"), "-ldl"], check=True)
-        yield Calls(str(pathlib.Path(path).resolve()), folder, library)
+        yield Calls(str(pathlib.Path(path).resolve()), folder, library, spoiled)

@@ -1,4 +1,5 @@
 """The file of a house: the commands on it, the log beside it, and its rows by SQLite."""
+import contextlib
 import shutil
 import sqlite3
 
@@ -19,6 +20,14 @@ def rows(folder, file):
     tables = {name: sorted(database.execute(f"SELECT * FROM {name}"), key=repr) for name in there}
     database.close()
     return tables
+
+
+def change(path, statement):
+    """Has SQLite change a row of a house that nobody serves."""
+    with contextlib.closing(sqlite3.connect(path)) as tables, tables:
+        tables.execute(statement)
+    # SQLite takes the log away.
+    path.with_name(f"{path.name}-wal").touch()
 
 
 def commands(file):
