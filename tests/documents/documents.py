@@ -3,7 +3,7 @@
 
 Each link leads to a file and a heading that are there. Each file that is named between backticks is there, by its path or the end
 of it. Each name of code in the pages on promises, definitions, crates and changes and in GLOSSARY.md is a word of some source,
-and each wrong body there has its file. Each block of Rust is text of some source. README.md and the pages of docs/, examples/ and
+and each wrong body there has its file. Each block of Rust is text of some source. README.md and the pages of docs/, deploy/ and
 tests/ have no line over 100 columns outside tables and Rust. Whatever shows how a house is made shows it under umask 077. The
 pages that clauses.py and list_tests.py make are those that they make; PROMISES.md has what ported.py and definitions.py print;
 and figures.py finds no wrong figure. The manual docs/auction.1 has no line over 80 columns, and no fault that mandoc finds, where
@@ -22,7 +22,7 @@ from lib.checks import claim, verdict
 from lib.places import ROOT
 
 PAGES = [*(ROOT / name for name in ("README.md", "CHANGELOG.md", "CONTRIBUTING.md", "bench/README.md", "tests/README.md")),
-         *sorted((ROOT / "docs").glob("*.md")), *sorted((ROOT / "examples").glob("*/*.md"))]
+         *sorted((ROOT / "docs").glob("*.md")), *sorted((ROOT / "deploy").glob("*/*.md"))]
 OF_CODE = [f"docs/{name}.md" for name in ("ARCHITECTURE", "CHANGING", "DEFINITIONS", "GLOSSARY", "LAYERS", "PROMISES", "PROOFS")]
 MANUAL = ROOT / "docs" / "auction.1"
 HERE = pathlib.Path(__file__).resolve().parent

@@ -18,8 +18,8 @@ sys.path.insert(0, str(ROOT / "bench"))
 import published  # noqa: E402
 
 PAGES = [ROOT / "README.md", ROOT / "CHANGELOG.md", ROOT / "bench" / "README.md", *sorted((ROOT / "docs").glob("*.md")),
-         *sorted((ROOT / "examples").glob("*/*.md"))]
-SHOWING = ["README.md", "bench/README.md", "docs/RUNNING.md", "examples/gateway/GROWTH.md"]
+         *sorted((ROOT / "deploy").glob("*/*.md"))]
+SHOWING = ["README.md", "bench/README.md", "docs/RUNNING.md", "deploy/gateway/GROWTH.md"]
 COMMENT = re.compile(r"<!--\s+figure:\s+(.*?)\s+-->", re.S)
 NUMBER_BEFORE = re.compile(r"([0-9][0-9.,]*)\s*" + COMMENT.pattern, re.S)
 COLUMNS = {"Ours": "ours", "Ahead": "ahead", **{name[0].upper() + name[1:]: whose for whose, name in published.OTHERS.items()}}

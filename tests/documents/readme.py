@@ -2,11 +2,11 @@
 """Runs the sessions of README.md and compares what they print: `readme.py PROGRAM`.
 
 A session is a block of which the first line begins with `$ `; each such line is a command, and the lines after it are what it has
-to print. All commands of a session run in one shell, in a folder of their own that has `examples/`, with PROGRAM as `auction`. A
-command that ends with `&` has printed its first line before the next begins; what else it prints comes after the command that
-waits for it, whichever of the two was the faster. In the place of the port 8080 is one that nobody else takes. The block that
-begins with an answer is what `make demo` prints: the first answer, and the body of each further one. The last line is 'N
-commands, M wrong'.
+to print. All commands of a session run in one shell, in a folder of their own that has `deploy/` and `examples/`, with PROGRAM
+as `auction`. A command that ends with `&` has printed its first line before the next begins; what else it prints comes after the
+command that waits for it, whichever of the two was the faster. In the place of the port 8080 is one that nobody else takes. The
+block that begins with an answer is what `make demo` prints: the first answer, and the body of each further one. The last line is
+'N commands, M wrong'.
 
 Promise: none
 """

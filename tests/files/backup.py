@@ -1,5 +1,5 @@
 #!/usr/bin/env python3
-"""Copies a house that is served, and restores it, by the scripts of examples/backup: `backup.py PROGRAM [COPIES]`.
+"""Copies a house that is served, and restores it, by the scripts of deploy/backup: `backup.py PROGRAM [COPIES]`.
 
 A client sends commands one after the other, each of which makes a row, while the house is copied COPIES times (20 where none are
 given) with a pause between file and log, so that the log is written into the file meanwhile now and then. Each copy has to be one
@@ -35,7 +35,7 @@ from lib.places import ROOT
 from lib.sent import PATIENCE
 from lib.serving import SETTINGS, Program, exchange, message, served
 
-SCRIPTS = ROOT / "examples" / "backup"
+SCRIPTS = ROOT / "deploy" / "backup"
 sys.path.insert(0, str(SCRIPTS))
 import copy_city  # noqa: E402
 import copy_house  # noqa: E402

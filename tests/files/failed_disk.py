@@ -40,7 +40,7 @@ ENVIRONMENT = {**os.environ, "PATH": os.environ["PATH"] + ":/usr/sbin:/sbin"}
 # Debian's Python has Debian's packages.
 PYTHON = "/usr/bin/python3"
 FAILING = ROOT / "tests" / "files" / "failing_files.py"
-GATEWAY = ROOT / "examples" / "gateway"
+GATEWAY = ROOT / "deploy" / "gateway"
 BANDS = ROOT / "examples" / "bands.csv"
 LINE = b"auction: file: Store\n"
 STORE = (500, {"error": "store"})

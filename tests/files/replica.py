@@ -2,7 +2,7 @@
 """Serves a house on a volume of GlusterFS that three machines keep, and ends them: `replica.py PROGRAM`, as root.
 
 The machines are namespaces of this one, with a network, mounts and processes of their own, and their disks are folders of one
-disk. The scripts of examples/replica make and mount the volume. Bids go to the house that one machine serves, and each answered
+disk. The scripts of deploy/replica make and mount the volume. Bids go to the house that one machine serves, and each answered
 one is noted. A second server at another machine is refused. A machine that only keeps is killed under bids, which go on, and the
 volume heals. The machine that serves is killed, or cut off, under bids, and the house is opened on another one. Each bid that was
 answered has to be in the house then. One that is cut off takes no bid after another machine has opened it, and its server ends
@@ -28,7 +28,7 @@ from lib.places import ROOT
 from lib.sent import PATIENCE
 from lib.serving import SETTINGS
 
-SCRIPTS = ROOT / "examples" / "replica"
+SCRIPTS = ROOT / "deploy" / "replica"
 # How long bids are sent for, in seconds.
 PERIOD = 6
 

@@ -2,7 +2,7 @@
 """Has keepalived give a city's address to one of two machines: `take_over_name.py PROGRAM`, as root.
 
 The machines are namespaces of this one, as in replica.py, and the house lies in a folder that both see. keepalived runs on both
-by examples/replica/keepalived.conf, and so do the scripts that it calls; in the place of systemd a script starts and ends the
+by deploy/replica/keepalived.conf, and so do the scripts that it calls; in the place of systemd a script starts and ends the
 house. A client on a third machine bids at the address, and notes each answered bid. The machine that serves is killed; another
 one's house ends and does not come back; another one is cut off. Each time the other machine has to have the address and all bids
 that were answered, and the one that was cut off may serve no more. keepalived and haproxy are of Debian's packages. The last line
@@ -26,8 +26,8 @@ from lib.machines import Machine, run, waited_for
 from lib.places import ROOT
 from lib.serving import SETTINGS
 
-QUEUE = ROOT / "examples" / "gateway" / "queue.cfg"
-SCRIPTS = [str(ROOT / "examples" / name)
+QUEUE = ROOT / "deploy" / "gateway" / "queue.cfg"
+SCRIPTS = [str(ROOT / "deploy" / name)
            for name in ("replica/answers.sh", "replica/give_up.sh", "replica/take_over.sh", "service/units.sh")]
 PLACES = [pathlib.Path(name) for name in ("/usr/share/auction", "/etc/auction", "/var/lib/auction")]
 ADDRESS, PORT = "198.51.100.100", 80
@@ -60,7 +60,7 @@ frontend city
 
 def configuration(own, other):
     """keepalived.conf of one machine, which asks sooner than each ten seconds."""
-    text = (ROOT / "examples" / "replica" / "keepalived.conf").read_text()
+    text = (ROOT / "deploy" / "replica" / "keepalived.conf").read_text()
     values = {"CITY": "lindow", "ADDRESS": f"{ADDRESS}/24", "INTERFACE": "eth0", "OWN": own, "OTHER": other}
     for word, value in values.items():
         text = re.sub(rf"\b{word}\b", value, text)

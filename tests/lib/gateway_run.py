@@ -1,4 +1,4 @@
-"""A gateway of examples/gateway that runs in a folder, as an ordinary user, and what it answers to who is signed in."""
+"""A gateway of deploy/gateway that runs in a folder, as an ordinary user, and what it answers to who is signed in."""
 import collections
 import contextlib
 import json
@@ -52,7 +52,7 @@ def as_a_user():
 
 
 def script(name, *words, **environment):
-    """The lines that one of the examples' scripts prints."""
+    """The lines that a script prints."""
     result = subprocess.run(["sh", name, *map(str, words)], preexec_fn=as_a_user, capture_output=True, text=True,
                           timeout=PATIENCE, env={**os.environ, "PATH": PATH, **environment})
     return result.returncode, result.stdout.splitlines(), result.stderr
@@ -66,9 +66,11 @@ class Gateway:
         # After how many connections the house ends, and how many messages each takes.
         self.count, self.messages, self.closes = str(count), str(messages), str(closes)
         self.hosts, self.host = hosts, hosts[0]
-        self.examples, self.program = folder / "examples", folder / "auction"
+        self.scripts, self.bands = folder / "deploy" / "gateway", folder / "examples" / "bands.csv"
+        self.program = folder / "auction"
         if not self.program.exists():
-            shutil.copytree(ROOT / "examples", self.examples)
+            for part in ("deploy", "examples"):
+                shutil.copytree(ROOT / part, folder / part)
             shutil.copy(program, self.program)
             self.program.chmod(0o755)
         self.numbers, self.passwords, self.tls = {}, {}, None
@@ -76,7 +78,7 @@ class Gateway:
         self.shown, self.address = {}, "127.0.0.1"
 
     def script(self, name, *words):
-        return script(self.examples / "gateway" / name, *words, PORT=str(self.port), HOUSE_PORT=str(self.house_port),
+        return script(self.scripts / name, *words, PORT=str(self.port), HOUSE_PORT=str(self.house_port),
                       COUNT=self.count, MESSAGES=self.messages, CLOSE=self.closes)
 
     def start(self, *hosts):

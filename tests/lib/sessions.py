@@ -25,7 +25,8 @@ class Shell:
     def __init__(self, folder, program):
         (folder / "bin").mkdir()
         (folder / "bin" / "auction").symlink_to(pathlib.Path(program).resolve())
-        (folder / "examples").symlink_to(ROOT / "examples")
+        for part in ("deploy", "examples"):
+            (folder / part).symlink_to(ROOT / part)
         path = f"{folder / 'bin'}:{os.environ['PATH']}"
         self.process = subprocess.Popen(["bash"], cwd=folder, env={**os.environ, "PATH": path}, text=True,
                                         stdin=subprocess.PIPE, stdout=subprocess.PIPE, stderr=subprocess.STDOUT)

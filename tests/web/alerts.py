@@ -1,5 +1,5 @@
 #!/usr/bin/env python3
-"""Reads the alert rules of examples/service by promtool, and plays each: `alerts.py`.
+"""Reads the alert rules of deploy/service by promtool, and plays each: `alerts.py`.
 
 Each rule is given a quarter of an hour in which its signal is well, and one in which it is not, and has to be silent in the first
 and to fire in the second. A signal that nobody gives has to fire as well. promtool is of Debian's package prometheus. The last
@@ -17,7 +17,7 @@ import tempfile
 from lib.checks import check, verdict
 from lib.places import ROOT
 
-RULES = ROOT / "examples" / "service" / "alerts.yml"
+RULES = ROOT / "deploy" / "service" / "alerts.yml"
 QUEUE = '{job="auction-queue", city="lindow", proxy="house"}'
 WATCH = '{job="auction-watch", city="lindow"}'
 ERRORS = '{job="auction-queue", city="lindow", proxy="queue", code="5xx"}'

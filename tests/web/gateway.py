@@ -1,5 +1,5 @@
 #!/usr/bin/env python3
-"""Runs the gateway of examples/gateway over the program, and drives it: `gateway.py PROGRAM [SECONDS [RESTARTS]]`.
+"""Runs the gateway of deploy/gateway over the program, and drives it: `gateway.py PROGRAM [SECONDS [RESTARTS]]`.
 
 start.sh, first_bids.sh, account.sh and stop.sh run as an ordinary user: as nobody where a superuser runs this. Then signed-in
 clients show what the page of the gateway says:

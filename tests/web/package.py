@@ -1,7 +1,7 @@
 #!/usr/bin/env python3
 """Makes the Debian package and tries it: `package.py PROGRAM FOLDER [DEBIAN]`.
 
-build.sh of examples/package makes it in FOLDER, twice the same bytes. lintian has to say nothing of it, where lintian is there.
+build.sh of deploy/package makes it in FOLDER, twice the same bytes. lintian has to say nothing of it, where lintian is there.
 Each file that nginx's files include is in it. Each link of the documents in the package leads to a file of it, and bash completes
 what the program's help has.
 
@@ -89,8 +89,8 @@ SCRIPTS = ["plain_debian.sh", "fresh_debian.sh", "readme_debian.sh"]
 INCLUDED = re.compile(r"^ *include (auction/[^;]+);", re.M)
 
 
-def build(program, folder, examples=ROOT / "examples", **settings):
-    subprocess.run(["sh", examples / "package" / "build.sh", program, folder], env=os.environ | settings, check=True,
+def build(program, folder, tree=ROOT, **settings):
+    subprocess.run(["sh", tree / "deploy" / "package" / "build.sh", program, folder], env=os.environ | settings, check=True,
                    stdout=subprocess.DEVNULL)
     return max(pathlib.Path(folder).glob("auction_*.deb"), key=lambda file: file.stat().st_mtime)
 
@@ -107,21 +107,20 @@ def build_older(program, folder):
     """A package of an older version, whose servers do not say to whom a browser may name a page."""
     with tempfile.TemporaryDirectory() as name:
         tree = pathlib.Path(name)
-        shutil.copytree(ROOT / "examples", tree / "examples")
-        for part in ("docs", "bench"):
+        for part in ("bench", "deploy", "docs", "examples"):
             shutil.copytree(ROOT / part, tree / part, ignore=shutil.ignore_patterns("plain"))
         for file in ("README.md", "CHANGELOG.md", "CONTRIBUTING.md", "crates.txt"):
             shutil.copy(ROOT / file, tree)
-        servers = tree / "examples" / "gateway" / "server.conf"
+        servers = tree / "deploy" / "gateway" / "server.conf"
         servers.write_text("".join(line for line in servers.read_text().splitlines(True) if "Referrer-Policy" not in line))
-        build(program, folder, tree / "examples", VERSION="0.9", SOURCE_DATE_EPOCH="0")
+        build(program, folder, tree, VERSION="0.9", SOURCE_DATE_EPOCH="0")
 
 
 def has_page(package):
     """All files of the page are in the package."""
     listing = subprocess.run(["dpkg-deb", "--contents", package], capture_output=True, text=True, check=True).stdout
     packed = set(re.findall(r" \./usr/share/auction/page/(\S*[^/\s])$", listing, re.M))
-    page = ROOT / "examples" / "gateway" / "page"
+    page = ROOT / "deploy" / "gateway" / "page"
     files = {str(file.relative_to(page)) for file in page.rglob("*") if file.is_file()}
     check("the page", packed, files)
 
@@ -208,7 +207,8 @@ def tried(debian, program, package):
         build_older(program, trial / "older")
         (trial / "newer").mkdir()
         shutil.copy(package, trial / "newer")
-        shutil.copytree(ROOT / "examples", trial / "repository" / "examples")
+        for part in ("deploy", "examples"):
+            shutil.copytree(ROOT / part, trial / "repository" / part)
         (trial / "repository" / "bin").mkdir()
         shutil.copy(program, trial / "repository" / "bin")
         for file in (WEB / "debian").iterdir():

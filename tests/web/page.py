@@ -1,5 +1,5 @@
 #!/usr/bin/env python3
-"""Drives the page of examples/gateway in Chromium: `page.py PROGRAM [PICTURES]`.
+"""Drives the page of deploy/gateway in Chromium: `page.py PROGRAM [PICTURES]`.
 
 The house, a seller and two who bid play an auction from its listing to its statement, each in a browser of its own, over a house
 with some history behind nginx and haproxy. They find all by roles and names of the accessibility tree alone. The files that are

@@ -8,7 +8,7 @@ import assert from "node:assert/strict";
 import { readFileSync, readdirSync } from "node:fs";
 import { test } from "node:test";
 
-const GATEWAY = new URL("../../examples/gateway/", import.meta.url);
+const GATEWAY = new URL("../../deploy/gateway/", import.meta.url);
 const text = name => readFileSync(new URL(name, GATEWAY), "utf8");
 const words = Object.fromEntries(["en", "de"].map(name => [name, JSON.parse(text(`page/words/${name}.json`))]));
 const modules = readdirSync(new URL("page/", GATEWAY), { recursive: true }).filter(name => name.endsWith(".js"));

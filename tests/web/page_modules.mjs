@@ -7,15 +7,15 @@
 import assert from "node:assert/strict";
 import { readFileSync } from "node:fs";
 import { beforeEach, test } from "node:test";
-import { csv } from "../../examples/gateway/page/elements/files.js";
-import { nameOrNone, titleOrNone } from "../../examples/gateway/page/elements/dom.js";
-import { dayInWords, duration, inWords } from "../../examples/gateway/page/time/moments.js";
-import { at, momentOf, parse } from "../../examples/gateway/page/time/zone.js";
-import { language, phrase, say, speak } from "../../examples/gateway/page/words/language.js";
-import { cents, money, plain, setCurrency, writtenMoney } from "../../examples/gateway/page/words/money.js";
-import { sentence } from "../../examples/gateway/page/words/refusals.js";
+import { csv } from "../../deploy/gateway/page/elements/files.js";
+import { nameOrNone, titleOrNone } from "../../deploy/gateway/page/elements/dom.js";
+import { dayInWords, duration, inWords } from "../../deploy/gateway/page/time/moments.js";
+import { at, momentOf, parse } from "../../deploy/gateway/page/time/zone.js";
+import { language, phrase, say, speak } from "../../deploy/gateway/page/words/language.js";
+import { cents, money, plain, setCurrency, writtenMoney } from "../../deploy/gateway/page/words/money.js";
+import { sentence } from "../../deploy/gateway/page/words/refusals.js";
 
-const wordsOf = name => JSON.parse(readFileSync(new URL(`../../examples/gateway/page/words/${name}.json`, import.meta.url), "utf8"));
+const wordsOf = name => JSON.parse(readFileSync(new URL(`../../deploy/gateway/page/words/${name}.json`, import.meta.url), "utf8"));
 
 beforeEach(() => speak(wordsOf("en")));
 

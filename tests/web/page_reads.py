@@ -2,7 +2,7 @@
 """Counts what open pages of an item ask of the house: `page_reads.py PROGRAM [PAGE [WINDOWS [SECONDS]]]`.
 
 Twenty windows of Chromium show items that are open for days, for a minute. First nobody bids, and then somebody bids for one of
-them each five seconds. PAGE is a folder in the place of examples/gateway/page, such as that of an older version. It needs what
+them each five seconds. PAGE is a folder in the place of deploy/gateway/page, such as that of an older version. It needs what
 page.py needs. The last two lines have the reads a second of a thousand such windows.
 
 Promise: none

@@ -1,5 +1,5 @@
 #!/usr/bin/env python3
-"""Asks a house through the queue of examples/gateway, as the service runs it: `service_queue.py PROGRAM`.
+"""Asks a house through the queue of deploy/gateway, as the service runs it: `service_queue.py PROGRAM`.
 
 haproxy is started with queue.cfg before a house in a file. 12,000 commands of ten clients at once go through it, none of which is
 lost where the house ends a connection after 10,000 messages, since the queue has it end each after 5,000. A command is taken
@@ -32,7 +32,7 @@ from lib.places import ROOT
 from lib.sent import PATIENCE, next_answer
 from lib.serving import SETTINGS, Program, exchange, held_port, message
 
-QUEUE = ROOT / "examples" / "gateway" / "queue.cfg"
+QUEUE = ROOT / "deploy" / "gateway" / "queue.cfg"
 HAPROXY = shutil.which("haproxy", path=f"{os.environ['PATH']}:/usr/sbin")
 # What the unit of the queue sets. Nobody listens on the port of the sign-in.
 SETTING = {"SOCKETS": ".", "SOCKET_MODE": "600", "MESSAGES": "5000", "SIGN_IN_PORT": "9"}

@@ -1,6 +1,6 @@
 #!/bin/sh
 # Runs as root in a plain Debian that has booted with systemd and never had a house, and in which /trial has the package, a copy
-# that plain_debian.sh took, and the members' tokens: it restores the city as examples/backup/README.md says. Prints lines of
+# that plain_debian.sh took, and the members' tokens: it restores the city as deploy/backup/README.md says. Prints lines of
 # a name and what was printed, of which package.py knows what they have to be.
 set -u
 cd /trial || exit

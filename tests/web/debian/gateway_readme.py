@@ -1,5 +1,5 @@
 #!/usr/bin/env python3
-"""Does what examples/gateway/README.md says, in a folder that has bin/auction and examples/: readme_debian.sh runs it.
+"""Does what deploy/gateway/README.md says, in a folder that has bin/auction, deploy/ and examples/: readme_debian.sh runs it.
 
 Each block of commands runs as it stands, but for the token of a program, which is the one that the line before has printed. Prints
 lines of a name and what was printed, of which package.py knows what they have to be.
@@ -9,7 +9,7 @@ import pathlib
 import re
 import subprocess
 
-TEXT = pathlib.Path("examples/gateway/README.md").read_text()
+TEXT = pathlib.Path("deploy/gateway/README.md").read_text()
 BLOCKS = re.findall(r"^```sh\n(.*?)^```$", TEXT, re.M | re.S)
 PRINTED = re.search(r"^```text\n(house: .*?)^```$", TEXT, re.M | re.S)[1]
 
@@ -43,22 +43,22 @@ def first_house():
     say("a token", status)
     status, printed = run(ask.replace("TOKEN", printed.split()[-1]))
     say("a program", f"{status} {'clock' in printed}")
-    say("stopped", run("sh examples/gateway/stop.sh city")[0])
+    say("stopped", run("sh deploy/gateway/stop.sh city")[0])
 
 
 def own_house():
     """A house that was made with other bands before the first start."""
     os.rename("city", "before")
     say("made first", run(block("--rate 500"))[0])
-    status, printed = run("sh examples/gateway/start.sh bin/auction city")
+    status, printed = run("sh deploy/gateway/start.sh bin/auction city")
     say("served, and not open", f"{status} {'until now' in printed}")
-    say("stopped again", run("sh examples/gateway/stop.sh city")[0])
+    say("stopped again", run("sh deploy/gateway/stop.sh city")[0])
 
 
 def region():
     status, printed = run(block("tarn.localhost\n"))
     say("several houses", f"{status} {printed.count(':8443: names and passwords')}")
-    say("all stopped", run("sh examples/gateway/stop.sh region")[0])
+    say("all stopped", run("sh deploy/gateway/stop.sh region")[0])
 
 
 if __name__ == "__main__":

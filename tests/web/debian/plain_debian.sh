@@ -1,7 +1,7 @@
 #!/bin/sh
 # shellcheck disable=SC2016 # wait_until does its word later, when it looks.
 # Runs as root in a plain Debian that has booted with systemd, and in which /trial has two packages: it installs the older
-# one, sets up two cities as examples/service/README.md says, runs them, installs the newer one over it, and removes it.
+# one, sets up two cities as deploy/service/README.md says, runs them, installs the newer one over it, and removes it.
 # Prints lines of a name and what was printed, of which package.py knows what they have to be.
 set -u
 cd /trial || exit

@@ -111,7 +111,7 @@ def half_done(gateway):
 def killed(gateway):
     """Runs are killed at ten moments. After the next run each member of the house has its login, and no other is there."""
     for count in range(10):
-        words = ["sh", gateway.examples / "gateway" / "account.sh", "add", gateway.house(), f"k{count}", f"Kim {count}"]
+        words = ["sh", gateway.scripts / "account.sh", "add", gateway.house(), f"k{count}", f"Kim {count}"]
         process = subprocess.Popen(words, preexec_fn=as_nobody, env={**os.environ, "PATH": PATH}, start_new_session=True,
                                    stdout=subprocess.DEVNULL, stderr=subprocess.DEVNULL)
         time.sleep(0.05 + 0.08 * count)

@@ -8,7 +8,7 @@ import sys
 from lib.checks import check
 from lib.places import ROOT
 
-RULES = ROOT / "examples" / "gateway" / "connections.nft"
+RULES = ROOT / "deploy" / "gateway" / "connections.nft"
 PATH = "/usr/sbin:/usr/bin:/sbin:/bin"
 NETWORK = ["unshare", "--user", "--map-root-user", "--net", sys.executable, pathlib.Path(__file__).with_name("let_in.py")]
 # How many get in, and how many more are tried.

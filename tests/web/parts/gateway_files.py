@@ -19,7 +19,7 @@ REFUSED = "start.sh: others may read houses/localhost, and its owner alone can s
 def make_open(gateway):
     """A house that its user has opened to others, where start.sh looks for it."""
     house = gateway.house()
-    words = ["--bands", gateway.examples / "bands.csv", "--rate", "1000", "--zone", "UTC0"]
+    words = ["--bands", gateway.bands, "--rate", "1000", "--zone", "UTC0"]
     for command in (["mkdir", "-p", house], [gateway.program, "init", house / "house", *words]):
         subprocess.run(command, check=True, preexec_fn=as_nobody, umask=0o022, stdout=subprocess.DEVNULL)
     check("as it is made", open_to_others(house), ["localhost"])
@@ -94,7 +94,7 @@ def half_started(program, folder):
     """A start that was killed when it had let one of four in is ended by the next."""
     with held_port() as port, held_port() as house_port:
         gateway = Gateway(program, folder, port, house_port)
-        words = ["sh", gateway.examples / "gateway" / "start.sh", gateway.program, gateway.folder]
+        words = ["sh", gateway.scripts / "start.sh", gateway.program, gateway.folder]
         process = subprocess.Popen(words, preexec_fn=as_nobody, start_new_session=True, stdout=subprocess.DEVNULL,
                                    env={**os.environ, "PATH": PATH, "PORT": str(port), "HOUSE_PORT": str(house_port)})
         begun = gateway.house() / "passwords.begun"

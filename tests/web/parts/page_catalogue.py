@@ -1,4 +1,4 @@
-"""The catalogue that examples/gateway/catalogue writes: it has what the house tells, is whole or as it was, and is shown."""
+"""The catalogue that deploy/gateway/catalogue writes: it has what the house tells, is whole or as it was, and is shown."""
 import http.server
 import json
 import os
@@ -16,7 +16,7 @@ from lib.places import ROOT
 from parts.page_house import MANY
 from parts.page_truth import ASKED
 
-JOB = ROOT / "examples" / "gateway" / "catalogue"
+JOB = ROOT / "deploy" / "gateway" / "catalogue"
 PART = 200
 
 
@@ -29,7 +29,7 @@ def run(house, python=sys.executable, job=JOB, **words):
 def round_of(gateway):
     """A round by the user who runs the gateway, who may not reach the Python of this test."""
     python = shutil.which("python3", path="/usr/bin:/usr/local/bin")
-    return run(gateway.house(), python, gateway.examples / "gateway" / "catalogue", preexec_fn=as_nobody)[:2]
+    return run(gateway.house(), python, gateway.scripts / "catalogue", preexec_fn=as_nobody)[:2]
 
 
 def tree(folder):

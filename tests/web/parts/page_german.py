@@ -10,7 +10,7 @@ from lib.screen_reader import ENTER, Reader
 from parts import page_notices as notices
 from parts.page_truth import Listings, go
 
-PAGE = ROOT / "examples" / "gateway" / "page"
+PAGE = ROOT / "deploy" / "gateway" / "page"
 FORM = {"login": "Anmeldename", "password": "Passwort", "button": "Anmelden", "pages": "Seiten"}
 CITY = {"currency": "Taler", "fetch": "In der alten Münze.", "language": "de", "pay": "An die Stadtkasse.",
         "terms": "Ein Gebot bindet.", "write": "haus@stadt.example"}

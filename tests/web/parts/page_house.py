@@ -1,4 +1,4 @@
-"""A house with some history, behind a gateway: what the page of examples/gateway is shown on.
+"""A house with some history, behind a gateway: what the page of deploy/gateway is shown on.
 
 Its zone is not that of the browser, and its sales lie on several days. Ana sells old books and maps. Ben and Cid buy them.
 Three lots and one member have names and texts that would do harm if they were read as HTML.
@@ -143,7 +143,7 @@ def with_many(now):
 
 def write_passwords(house):
     """Lets the members sign in whom the house knows, as account.sh does, by hashes that take less time."""
-    tables = ROOT / "examples" / "gateway" / "accounts.sql"
+    tables = ROOT / "deploy" / "gateway" / "accounts.sql"
     lines = []
     with contextlib.closing(sqlite3.connect(house / "accounts")) as accounts:
         accounts.executescript(tables.read_text())
@@ -163,7 +163,7 @@ def make_house(program, folder, history):
     house = gateway.house()
     subprocess.run(["mkdir", "-p", house], check=True, preexec_fn=as_nobody)
     tool = Program(gateway.program, house, before=as_nobody)
-    words = ["--bands", str(gateway.examples / "bands.csv"), "--rate", "1000", "--zone", ZONE]
+    words = ["--bands", str(gateway.bands), "--rate", "1000", "--zone", ZONE]
     check("a house is made", tool.ended("init", "house", *words)[0], 0)
     [answers], _ = tool.answers("house", [b"".join(history(int(time.time())))])
     check("its history is taken", answers.count(b"HTTP/1.1 20"), answers.count(b"HTTP/1.1 "))

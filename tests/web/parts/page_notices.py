@@ -17,7 +17,7 @@ from lib.places import ROOT
 from parts import page_sealed as sealed
 from parts.page_truth import go
 
-JOB = ROOT / "examples" / "gateway" / "notices" / "notices.py"
+JOB = ROOT / "deploy" / "gateway" / "notices" / "notices.py"
 KEEPS = """#!/bin/sh
 cat > "$(dirname "$0")/mails/$(date +%s%N).$$"
 """

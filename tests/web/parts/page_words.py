@@ -9,7 +9,7 @@ from lib.places import ROOT
 from lib.plain_site import NUMBERS
 from parts.page_house import in_zone
 
-PAGE = ROOT / "examples" / "gateway" / "page"
+PAGE = ROOT / "deploy" / "gateway" / "page"
 RULES = ["UTC0", "CET-1CEST,M3.5.0,M10.5.0/3", "EST5EDT,M3.2.0,M11.1.0", "AEST-10AEDT,M10.1.0,M4.1.0/3", "<+0330>-3:30",
          "NST3:30NDT,M3.2.0,M11.1.0", "<-03>3<-02>,M3.5.0/-2,M10.5.0/-1", "IST-1GMT0,M10.5.0,M3.5.0/1", "XXX-2YYY,J60/0,J300/25",
          "XXX5:15:30YYY,59/3,299"]

@@ -55,7 +55,7 @@ make_house() {
     sqlite3 -bail "houses/$1/accounts" < "$here/accounts.sql" > /dev/null
     [ -e "houses/$1/port" ] || echo $((${HOUSE_PORT:-18080} + 2 * $(find houses -name port | wc -l))) > "houses/$1/port"
     [ -e "houses/$1/house" ] ||
-        "$program" init "houses/$1/house" --bands "$here/../bands.csv" --rate 1000 --zone UTC0 > /dev/null
+        "$program" init "houses/$1/house" --bands "$here/../../examples/bands.csv" --rate 1000 --zone UTC0 > /dev/null
 }
 
 # A house holds its lock as long as any of its processes goes on.

@@ -57,12 +57,12 @@ put_documents() {
     # Sources aren't in the package, so no link leads to one.
     sed -i 's,\[\([^]]*\)\](\(\.\./\)*\(crates\|tests\)/[^)]*),\1,g' "$documents"/docs/*.md
     for part in service backup gateway replica; do
-        put "usr/share/doc/auction/examples/$part" "$part"/*.md
+        put "usr/share/doc/auction/deploy/$part" "$part"/*.md
     done
-    put usr/share/doc/auction/examples/gateway/catalogue gateway/catalogue/README.md
+    put usr/share/doc/auction/deploy/gateway/catalogue gateway/catalogue/README.md
     put usr/share/doc/auction/examples service/prometheus.yml replica/keepalived.conf
-    install -m 644 gateway/connections.nft "$documents/examples/gateway/"
-    put usr/share/auction bands.csv
+    install -m 644 gateway/connections.nft "$documents/deploy/gateway/"
+    put usr/share/auction ../examples/bands.csv
     printf 'auction (%s) unstable; urgency=medium\n\n  * Packaged.\n\n -- %s  %s\n' "$version" \
         "$(sed -n 's/^Maintainer: //p' package/control)" "$(date -u -R -d "@$date")" |
         gzip -9n > "$documents/changelog.gz"
