@@ -1,0 +1,13 @@
+use Rattle.std.proofs.lemmas.Result.{on_ok_weaker}
+use Rattle.tree_order.proofs.ViewLemmas.{marks_under, fails_under}
+use Rattle.tree_order.proofs.renumbered.RenumberedStore.savepoint.Goals as goal
+
+pub returns-clause-ok : goal.returns-clause-ok
+returns-clause-ok g c =
+    let s = c.args.self.now in
+    on_ok_weaker c.savepoint.result (λ is clean. marks_under s.numbers.inner.items s.numbers.outer.items (g.S.Store.view s.inner) (g.S.Store.view c.savepoint.new.self) (is clean)) c.savepoint.ensures.ok
+
+pub returns-clause-err : goal.returns-clause-err
+returns-clause-err g c =
+    let s = c.args.self.now in
+    fails_under s.numbers.inner.items s.numbers.outer.items c.savepoint.result (g.S.Store.view s.inner) (g.S.Store.view c.savepoint.new.self) c.savepoint.ensures.err

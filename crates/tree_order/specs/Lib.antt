@@ -1,0 +1,10 @@
+pub mod Numbers
+pub mod Rows
+pub mod Place
+pub mod Renumbered
+pub mod Shown
+pub mod Told
+pub mod NumberLaws
+pub mod TableLaws
+pub mod RowLaws
+pub mod Laws
