@@ -3,7 +3,8 @@
 
 A judge that passes everything would have every other script pass. So each is given what it has to pass and what it has to find, as
 texts that are written here: the count of checks, well-formed answers, the two rules by which a stream is cut, sections of a
-transcript, and the report of refused runs. The rules in Python have plain_cases.py. The last line is 'N checks, M wrong'.
+transcript, the report of refused runs, and for what reason a wrong body is refused. The rules in Python have plain_cases.py. The
+last line is 'N checks, M wrong'.
 
 Promise: none
 """
@@ -16,6 +17,8 @@ from lib.frame import cut, request_of
 from lib.refusal import report
 from lib.sent import Malformed, answers_in, gives_up, next_answer, replayed, value_of
 from lib.transcript import pairs, section
+from lib.wrong_bodies import (CLAUSE, FALSE, GAVE_UP, LOST, MISFIT, NO_CODE, PANIC, PROOF, PROVED, Found, Function, both, class_of,
+                              fitting, functions_of, lefts, owner, rows_of, without_answers)
 
 OK = (b"HTTP/1.1 200 OK\r\ncontent-type: application/json\r\ncontent-length: 13\r\n\r\n"
       b'{"a":1,"b":2}')
@@ -30,6 +33,66 @@ SPOILED = [
 STREAM = (b"\r\nGET /a HTTP/1.1\r\nhost: h\r\n\r\nPOST /b HTTP/1.1\r\nContent-Length: 3\r\n\r\nabc"
           b"POST /c HTTP/1.1\r\ncontent-length: 3\r\n\r\nab")
 TRANSCRIPT = "> section one\n-- a comment\n> ask\nanswer\n\n> ask again\n> section two\n> ask\nother\n"
+
+# What a check says of a function `f` of a crate `c`, and what a wrong body comes to by it.
+BEGIN, ENSURES = "note: src/a.rt:7:5: it is not proved that ", "what the function ensures holds when it returns"
+END = "fn c::a::f: no proof: expected answers in ./proofs/a/f/Answers.antt\nonly=1 proved=0\n"
+VALUES, UP = "; the facts known there allow values at which this goal is false", "; `search` gave up at one of its limits"
+FALSE_AT_2 = f"{BEGIN}{ENSURES} (`returns-2`){VALUES}\n"
+ANSWER = "./proofs/a/f/Answers.antt:9:2: error: "
+GONE = "has no field named `tail`\n"
+CHECKED = [
+    ("a goal that values make false", f"{BEGIN}{ENSURES} (`returns`){VALUES}\n{END}", CLAUSE, False),
+    ("a goal that stays open", f"{BEGIN}{ENSURES} (`returns-clause-ok`)\n{END}", CLAUSE, False),
+    ("what a callee asks for", f"{BEGIN}what `g` requires holds at this call (`g-requires`)\n{END}", CLAUSE, False),
+    ("a sum that may not fit", f"{BEGIN}the sum fits its type (at `..=n`, `n + 1`) (`overflow_add-n`)\n{END}", PANIC, False),
+    ("a search that gave up", f"{BEGIN}{ENSURES} (`returns`){UP}\n{END}", GAVE_UP, False),
+    ("one that gave up, and one that is false", f"{BEGIN}{ENSURES} (`returns`){UP}\n{FALSE_AT_2}{END}", CLAUSE, False),
+    ("the invariant of a loop", f"{BEGIN}the invariant of the loop holds (`loop-i-preserved`){VALUES}\n{END}", PROOF, False),
+    ("an answer that names what is gone", f"{ANSWER}`returns`: {GONE}{END}", LOST, True),
+    ("such an answer, and an open goal", f"{ANSWER}`returns`: {GONE}{BEGIN}{ENSURES} (`returns-2`)\n{END}", LOST, True),
+    ("such an answer, and a goal that is false", f"{ANSWER}`returns`: {GONE}{FALSE_AT_2}{END}", CLAUSE, False),
+    ("an answer that shows another thing", f"{ANSWER}`returns`: the two types differ\n{END}", CLAUSE, True),
+    ("a code that is none", "src/a.rt:7:5: error[mismatched-types]: expected `u32`, found `bool`\n", NO_CODE, False),
+    ("no verdict", "rattle: no verdict, since antt ran out of memory\n", GAVE_UP, False),
+    ("a proof", "fn c::a::f: proved\nonly=1 proved=1\n", PROVED, False),
+    ("a proof over a callee that has none", "fn c::a::f: no proof: it calls `c::g`, which is not proved\nonly=1 proved=0\n", PROVED, False),
+    ("another function's goal", f"{BEGIN}{ENSURES} (`returns`)\nfn c::g: no proof\nfn c::a::f: proved\nonly=2 proved=1\n", PROVED, False),
+]
+CODE = """\
+impl<T: Read> Source for Reading<T> {
+    // A line.
+    fn take(&mut self, into: &mut [u8]) -> Result<usize, Failure>
+        ensures some { IfOk result (λ n. n ≡ record {
+            a = 1;
+        }) }
+
+        // Another clause.
+        ensures none { OnErr result Nothing }
+    {
+        self.one()
+    }
+
+    fn asked(&self) -> bool
+        ensures { result ≡ true };
+}
+
+fn plain() -> u32 {
+    7
+}
+"""
+ANSWERS = """\
+use a.b.{c}
+
+pub returns : goal.returns
+returns c =
+    let x = c.y in
+    x
+
+-- the other
+pub returns-2 : goal.returns-2
+returns-2 c = z
+"""
 
 
 def fails(call, *words):
@@ -95,11 +158,34 @@ def sections():
     check("its lines", pairs(section(TRANSCRIPT, "one")), [("ask", ["answer"]), ("ask again", [])])
 
 
+def reasons():
+    """Why a wrong body is refused: a goal of the contract counts, a limit and a lost name don't."""
+    function = Function("src/a.rt", "f", "", 6, 6, 9)
+    for name, said, kind, by_shape in CHECKED:
+        left = lefts(said, {}, (function,))
+        check(name, (class_of(left), Found(class_of(left), tuple(left or ())).by_shape()), (kind, by_shape))
+    misfit = lefts(CHECKED[10][1], {}, (function,))
+    check("an answer that no longer fits, whose goal is proved without it", class_of(both(misfit, [])), PROVED)
+    for name, said, whys in [("false", CHECKED[0][1], [MISFIT, FALSE]), ("open", CHECKED[0][1].replace(VALUES, ""), [MISFIT])]:
+        check(f"one whose goal is {name} without it", [one.why for one in both(misfit, lefts(said, {}, (function,)))], whys)
+    check("functions", [(one.name, one.first, one.opens, one.last) for one in functions_of("src/a.rt", CODE)],
+          [("take", 2, 9, 11), ("plain", 17, 17, 19)])
+    take, plain = functions_of("src/a.rt", CODE)
+    check("their names", (take.asked(), plain.asked(), owner("impl fmt::Display for Cents {")),
+          ("ReadingSource::take", "a::plain", ("Display", "Cents")))
+    check("one of several", fitting(take, ["c::a::OtherSource::take", "c::b::ReadingSource::take"]), ["c::b::ReadingSource::take"])
+    check("an edit", list(rows_of("file: src/a.rt\nold: 7\nnew: 8\nold:  x\nnew:\n")),
+          [("src/a.rt", "7", "8"), ("src/a.rt", " x", "")])
+    check("answers without one", without_answers(ANSWERS, {"returns"}),
+          "use a.b.{c}\n\n-- the other\npub returns-2 : goal.returns-2\nreturns-2 c = z\n")
+
+
 def main():
     counts()
     answers()
     streams()
     sections()
+    reasons()
     return verdict()
 
 

@@ -21,7 +21,7 @@ FOLDERS = {
     "files": "What lies in the file of a house, and what kills, power cuts, upgrades and a failing disk leave.",
     "memory": "That want of memory is told, and changes nothing else.",
     "documents": "That the documents say what is so.",
-    "web": "What is around the program, in examples/: the gateway, its page, the service and the package.",
+    "web": "What is around the program, in deploy/: the gateway, its page, the service and the package.",
     "kit": "What runs the gate, and looks at what it would miss.",
 }
 HEAD = """\

@@ -1,0 +1,252 @@
+#!/usr/bin/env python3
+"""Puts small wrong edits at random lines, and says what refuses them: `mutants.py SEED COUNT [NAME..]`.
+
+A seed draws lines of the bodies of all crates but those of tests and benches, or of named ones, so that each line is as likely as
+another, and one of the edits that fit it: a comparison turned, one more or less, a call left out, arguments swapped, a branch taken
+twice, another constant, a return before the line, `||` for `&&`, a `!` dropped. Each is checked as reasons.py checks an edit, with
+the same classes and the same folder of what is kept; one that doesn't compile is drawn again. Those that are refused only because
+answers of the proof no longer fit count apart: they say nothing of the contract. One that is PROVED is printed, for a person to
+judge: it means the same as before, or a clause is missing. It needs the kit, with its `rt` on the path. The last line is
+'N mutants, M proved'.
+
+Promise: none
+"""
+import collections
+import difflib
+import functools
+import random
+import re
+import sys
+
+from lib.crates import dependencies
+from lib.places import ROOT
+from lib.wrong_bodies import CLASSES, CRATES, NO_CODE, PROVED, REFUSED, Body, found, functions_of, key, table, try_bodies
+
+LEFT_OUT = re.compile(r"test_|bench_")
+# What stands in a line and is no code: texts, characters, and a comment at its end.
+NO_CODE_TEXT = re.compile(r'b?"(?:\\.|[^"\\])*"|b?\'(?:\\.[^\']*|[^\'\\])\'|//.*')
+# A line that begins a statement, or is the value of its block.
+STATEMENT = re.compile(r"\s+(?:let |if |match |for |while |return |self\.|\w+[.(:!]|\w+ [-+*]?= |Ok\(|Err\(|Some\(|\w+$)")
+CALL = re.compile(r"\s+(?:self|\w+)(?:\.\w+|::\w+)*\(.*\)\??;$")
+# A value that may stand as an argument.
+PLAIN = r"&?(?:mut )?[\w.]+(?:\(\))?"
+SWAPPED = re.compile(rf"(\w\()({PLAIN}), ({PLAIN})(?=[,)])")
+NUMBER = re.compile(r"(?<![\w.])\d[\d_]*(?![\w.]|\.\.)")
+ARM = re.compile(r"(\s+)(.+) => (.+),$")
+BRANCHES = re.compile(r"(\bif .* )\{ ([^{}]*) \} else \{ ([^{}]*) \}")
+TURNED = {" == ": [" != "], " != ": [" == "], " < ": [" <= ", " >= "], " <= ": [" < ", " > "], " > ": [" >= ", " <= "],
+          " >= ": [" > ", " < "]}
+JOINED = {" && ": [" || "], " || ": [" && "], " + ": [" - "], " - ": [" + "], "..=": [".."], " += ": [" -= "], " -= ": [" += "]}
+PAIRS = [("true", "false"), ("min", "max"), ("is_some", "is_none"), ("is_ok", "is_err"), ("first", "last")]
+OTHER = {one: other for pair in PAIRS for one, other in (pair, pair[::-1])}
+
+
+def places(line, text):
+    """Where a text stands in the code of a line."""
+    hidden = [match.span() for match in NO_CODE_TEXT.finditer(line)]
+    return [match.start() for match in re.finditer(re.escape(text), line)
+            if not any(start <= match.start() < end for start, end in hidden)]
+
+
+def replaced(line, start, end, new):
+    return line[:start] + new + line[end:]
+
+
+def value_of(head):
+    """Values that a function of such a head may return at once."""
+    given = re.search(r"-> (.*?)(?: where\b.*)?(?: \{)?$", head)
+    kind = given[1] if given else ""
+    if not kind:
+        return ["return;"]
+    for form, values in [(r"Result<\(\),", ["Ok(())"]), (r"Option<", ["None"]), (r"bool$", ["true", "false"]),
+                         (r"(?:u|i)(?:8|16|32|64|128|size)$", ["0", "1"]), (r"Result<bool,", ["Ok(true)", "Ok(false)"]),
+                         (r"Result<(?:u|i)\w+,", ["Ok(0)"]), (r"Result<Option<", ["Ok(None)"])]:
+        if re.match(form, kind):
+            return [f"return {value};" for value in values]
+    return []
+
+
+def turned(line):
+    """Comparisons turned, one more or less, `&&` and `||`, the other of two words, and a `!` dropped."""
+    for old, news in [*TURNED.items(), *JOINED.items()]:
+        for at in places(line, old):
+            yield from (replaced(line, at, at + len(old), new) for new in news)
+    for at in places(line, "!"):
+        if line[at + 1:at + 2] not in ("=", "(", "[") and not re.match(r"\w", line[at - 1:at] or " "):
+            yield replaced(line, at, at + 1, "")
+    for old, new in OTHER.items():
+        for at in places(line, old):
+            if re.match(rf"\b{old}\b", line[at:]) and not re.match(r"\w", line[at - 1:at] or " "):
+                yield replaced(line, at, at + len(old), new)
+
+
+def counted(line):
+    """Another number, or another constant that the line has."""
+    hidden = [match.span() for match in NO_CODE_TEXT.finditer(line)]
+    for match in NUMBER.finditer(line):
+        if not any(start <= match.start() < end for start, end in hidden):
+            number = int(match[0].replace("_", ""))
+            yield from (replaced(line, *match.span(), str(other)) for other in {number + 1, max(number - 1, 0)} - {number})
+    for match in re.finditer(r"\.len\(\)", line):
+        yield replaced(line, *match.span(), ".len() + 1")
+    for match in re.finditer(r"\b[A-Z][A-Z_0-9]+\b", line):
+        yield replaced(line, *match.span(), f"({match[0]} + 1)")
+
+
+def swapped(line):
+    """Two arguments that stand beside each other, each in the other's place."""
+    for match in SWAPPED.finditer(line):
+        if match[2] != match[3]:
+            yield replaced(line, *match.span(), f"{match[1]}{match[3]}, {match[2]}")
+
+
+def taken_twice(line, above):
+    """One branch in the place of the other."""
+    for match in BRANCHES.finditer(line):
+        if match[2] != match[3]:
+            yield replaced(line, *match.span(), f"{match[1]}{{ {match[2]} }} else {{ {match[2]} }}")
+            yield replaced(line, *match.span(), f"{match[1]}{{ {match[3]} }} else {{ {match[3]} }}")
+    one, other = ARM.match(above), ARM.match(line)
+    are_arms = one and other and one[1] == other[1] and one[3] != other[3]
+    if are_arms and not names_in(one[2], one[3]) - set(re.findall(r"\w+", other[2])):
+        yield f"{other[1]}{other[2]} => {one[3]},"
+
+
+def names_in(pattern, value):
+    """The names of a pattern that a value has."""
+    return set(re.findall(r"\b[a-z_]\w*", pattern)) & set(re.findall(r"\w+", value))
+
+
+def left_out(line):
+    """Nothing in the place of a call whose value nobody takes."""
+    if CALL.match(line):
+        yield ""
+
+
+def returned(lines, at, head):
+    """A return in the place of a statement, and nothing in that of the lines that follow in its block."""
+    line, above = lines[at], lines[at - 1]
+    if not STATEMENT.match(line) or " => " in line or not above.endswith(("{", ";", "}")):
+        return
+    blanks = line[:len(line) - len(line.lstrip())]
+    end = next(row for row in range(at, len(lines)) if lines[row] and not lines[row].startswith(blanks))
+    for value in value_of(head):
+        if line.strip(" ;").removeprefix("return ") != value.strip(";").removeprefix("return "):
+            yield "\n".join([f"{blanks}{value}", *[""] * (end - at - 1)])
+
+
+def edits_at(lines, at, head):
+    """The wrong lines that may take the place of one, by what they do."""
+    line, above = lines[at], lines[at - 1]
+    ways = {"turned": turned(line), "number": counted(line), "swapped": swapped(line), "branch": taken_twice(line, above),
+            "left out": left_out(line), "return": returned(lines, at, head)}
+    made = {way: [new for new in dict.fromkeys(news) if new != line] for way, news in ways.items()}
+    return {way: news for way, news in made.items() if news}
+
+
+def head_of(lines, function):
+    """The head of a function as one line, without its clauses."""
+    rows = []
+    for line in lines[function.first:function.opens + 1]:
+        if re.match(r"\s+(?:requires|ensures|ghost|//)", line):
+            break
+        rows.append(line.strip())
+    return re.sub(r" ?\{$", "", " ".join(rows))
+
+
+def is_test(lines, function):
+    """Whether a function is a test, or stands in a module of tests."""
+    above = "\n".join(lines[:function.first])
+    return "#[test]" in "\n".join(lines[max(0, function.first - 3):function.first]) or "#[cfg(test)]\nmod tests {" in above
+
+
+@functools.cache
+def lines_of(crates):
+    """Each line of code in a body, of all these crates: its crate, file and number, and its function."""
+    rows = []
+    for crate in crates:
+        for path in sorted((CRATES / crate / "src").rglob("*.rt")):
+            file, text = str(path.relative_to(CRATES / crate)), path.read_text()
+            lines = text.split("\n")
+            for function in functions_of(file, text):
+                if function.file.endswith("tests.rt") or is_test(lines, function):
+                    continue
+                rows += [(crate, file, at, function) for at in range(function.opens + 1, function.last)
+                         if lines[at].strip(" {}();,") and not lines[at].lstrip().startswith(("//", "ghost ", "prove!", "#"))]
+    return rows
+
+
+def drawn(seed, crates):
+    """Wrong bodies without end, as a seed draws them."""
+    chance, rows, seen, count = random.Random(seed), lines_of(tuple(crates)), set(), 0
+    while True:
+        crate, file, at, function = chance.choice(rows)
+        text = (CRATES / crate / file).read_text()
+        lines = text.split("\n")
+        ways = edits_at(lines, at, head_of(lines, function))
+        if not ways:
+            continue
+        way = chance.choice(list(ways))
+        # A return fits almost every line.
+        if way == "return" and chance.random() < 0.6:
+            continue
+        new = chance.choice(ways[way])
+        if (crate, file, at, new) in seen:
+            continue
+        seen.add((crate, file, at, new))
+        count += 1
+        lines[at:at + new.count("\n") + 1] = new.split("\n")
+        yield Body(crate, f"{count}, {way}, {file}:{at + 1}", ((file, "\n".join(lines)),), (function,))
+
+
+def difference(body):
+    """The lines that a body changes."""
+    for file, text in body.texts:
+        old = (CRATES / body.crate / file).read_text().split("\n")
+        for line in difflib.unified_diff(old, text.split("\n"), f"crates/{body.crate}/{file}", "", "", "", 1, ""):
+            yield f"    {line}"
+
+
+def line(body):
+    one = found(body)
+    shape = ", by its answers alone" if one.kind in REFUSED and one.by_shape() else ""
+    shown = f"{body.crate}/{body.name}: {one.kind}{shape}{f' ({one.told()})' if one.told() else ''}"
+    return "\n".join([shown, *difference(body)]) if one.kind == PROVED else shown
+
+
+def main():
+    if len(sys.argv) < 3 or not sys.argv[2].isdigit():
+        sys.exit(__doc__.split("\n", 1)[0])
+    seed, count, named = sys.argv[1], int(sys.argv[2]), sys.argv[3:]
+    unknown = [name for name in named if not (CRATES / name / "src").is_dir()]
+    if unknown:
+        sys.exit(f"no crate: {' '.join(unknown)}")
+    source = drawn(seed, [name for name in dependencies(ROOT) if name in named or not named and not LEFT_OUT.match(name)])
+    bodies, told = [], set()
+
+    def tell(body):
+        if key(body) not in told and found(body).kind != NO_CODE:
+            told.add(key(body))
+            print(line(body), flush=True)
+
+    while len(bodies) < count:
+        # Those that don't compile make room for as many more.
+        bodies += [next(source) for _ in range(count - len(bodies))]
+        try_bodies(sorted(bodies, key=lambda body: list(dependencies(ROOT)).index(body.crate)), told=tell,
+                   may_be_no_code=True)
+        tried = [body for body in bodies if found(body)]
+        if len(tried) < len(bodies):
+            break
+        bodies = [body for body in bodies if found(body).kind != NO_CODE]
+    results = [found(body) for body in bodies if found(body)]
+    counts = collections.Counter(one.kind for one in results)
+    shaped = collections.Counter(one.kind for one in results if one.kind in REFUSED and one.by_shape())
+    print()
+    print("\n".join(table([["came to", "mutants", "by its answers alone"],
+                           *([name, str(counts[name] or "-"), str(shaped[name] or "-")] for name in CLASSES if name != NO_CODE)])))
+    print(f"{len(results)} mutants, {counts[PROVED]} proved")
+    return 0
+
+
+if __name__ == "__main__":
+    sys.exit(main())

@@ -1,0 +1,136 @@
+#!/usr/bin/env python3
+"""Has the kit plant wrong bodies in crates, and makes docs/PLANTED.md of what came of it: `plant.py [--kept] [NAME..]`.
+
+`rt plant` puts wrong bodies under a crate's public functions: some give up, others call the real function and change an argument,
+the result or a field. It runs here over each of named crates, or of all but those of tests and benches, in a copy, and for as long
+as it takes. What it found is kept in out/planted by a sum of the crate's text, so that a run begins with the first crate that has
+nothing kept. A crate is run anew if a run was broken off inside it, or if one of its checks ran out of time: rt gives each four
+minutes, which may be too few on a busy machine. With --kept nothing is run. The page has a table of the crates of which something
+is kept, and each body that was proved, for a person to judge. It needs the kit, with its `rt` on the path. The last line is
+'N crates, M bodies proved'.
+
+Promise: none
+"""
+import collections
+import re
+import subprocess
+import sys
+
+from lib.crates import dependencies
+from lib.places import ROOT
+from lib.wrong_bodies import CRATES, copied, kit, sum_of
+
+KEPT, PAGE = ROOT / "out" / "planted", ROOT / "docs" / "PLANTED.md"
+LEFT_OUT = re.compile(r"test_|bench_")
+# No number of bodies or minutes ends a run.
+NO_END = "100000"
+ROW = re.compile(r"(proves|same|refused|elsewhere|not-judged|not-source|not-run|untested|no-ensures)\s+(src/\S+?):\d+ (.*)$")
+BODY = re.compile(r"(.+?): \{ (.*?) ?\}(?:  \((.*)\))?$")
+LAST = re.compile(r"^plants crate=(\w+) planted-in=([0-9]+) untested=([0-9]+) no-ensures=([0-9]+)", re.M)
+OUT_OF_TIME = "the check was killed or ran out of time"
+# In whose words a body isn't judged.
+UNCHANGED = "the unchanged call did not prove"
+WHYS = {"the tactics met a limit": "a limit", UNCHANGED: "the unchanged call isn't proved", "rt could not tell": "which function it is",
+        OUT_OF_TIME: "no end"}
+HEAD = """# Planted bodies
+
+Made by `tests/kit/plant.py` of what `rt plant` said, by {kit}. It puts wrong bodies under the
+public functions of a crate, and has the tactics try to prove each: some give up, others call the
+real function and change an argument, the result or a field. Refused are those of which a clause was
+not proved. A body that was proved meets the contract, so a clause is missing, unless the body is
+right, or no clause can speak: those are listed below the table. Of one that is the same, the
+contract shows that it answers as the real function does. One isn't judged where only what a callee
+asks for was not proved, where the tactics met a limit, or where the unchanged call isn't proved.
+Only crates that were run on today's text stand here.
+
+| Crate | Functions | Tried | Refused | Proved | Same | Not judged | Why not |
+|---|---|---|---|---|---|---|---|
+"""
+
+
+def place(crate):
+    return KEPT / f"{crate}-{sum_of(crate)[:16]}"
+
+
+def planted(crate):
+    """What `rt plant` says of a crate, from what is kept or by a run, or none where it said no last line."""
+    if place(crate).exists() and OUT_OF_TIME not in place(crate).read_text():
+        return place(crate).read_text()
+    with copied(crate) as copy:
+        ran = subprocess.run(["rt", "plant", "--all", "--max", NO_END, "--minutes", NO_END, "--jobs", "1"], cwd=copy.folder,
+                             stdin=subprocess.DEVNULL, stdout=subprocess.PIPE, stderr=subprocess.PIPE, text=True, errors="replace")
+    if not LAST.search(ran.stdout):
+        print(f"{crate}: rt plant gave no last line: {(ran.stdout + ran.stderr)[-400:]}")
+        return None
+    KEPT.mkdir(parents=True, exist_ok=True)
+    place(crate).write_text(ran.stdout)
+    return ran.stdout
+
+
+def rows_of(said):
+    """The bodies in what `rt plant` says: the kind, the function, the body and why it is not judged."""
+    for line in said.splitlines():
+        row = ROW.match(line)
+        body = row and BODY.match(row[3])
+        if row:
+            function, text, why = (body[1], body[2], body[3] or "") if body else (row[3], "", "")
+            yield row[1], f"{row[2]} {function}", text, why
+
+
+def why_not(rows):
+    """Why bodies are not judged, and how many each."""
+    counts = collections.Counter()
+    for kind, _, _, why in rows:
+        if kind == "elsewhere":
+            counts["what a callee asks for"] += 1
+        elif kind == "not-judged":
+            counts[next((words for begin, words in WHYS.items() if why.startswith(begin)), why[:60] or "no reason given")] += 1
+    return ", ".join(f"{words}: {count}" for words, count in counts.most_common())
+
+
+def row(crate, said):
+    """The line of a crate in the table, and how many bodies were proved."""
+    rows, functions = list(rows_of(said)), LAST.search(said)[2]
+    kinds = collections.Counter(kind for kind, *_ in rows)
+    unjudged = kinds["elsewhere"] + kinds["not-judged"]
+    # A call of the function as it is, which is not proved, is no wrong body.
+    tried = kinds["refused"] + kinds["proves"] + kinds["same"] + unjudged - sum(why.startswith(UNCHANGED) for *_, why in rows)
+    counts = [functions, tried, kinds["refused"], kinds["proves"], kinds["same"], unjudged]
+    return f"| {crate} | {' | '.join(map(str, counts))} | {why_not(rows)} |", kinds["proves"]
+
+
+def cell(text):
+    return f"`{text}`".replace("|", "\\|") if text else "nothing"
+
+
+def page(found):
+    """The page of what was said of each crate."""
+    lines = [HEAD.format(kit=kit().strip().split("\n")[0]) + "\n".join(row(crate, said)[0] for crate, said in found.items())]
+    proved = [(crate, function, text) for crate, said in found.items()
+              for kind, function, text, _ in rows_of(said) if kind == "proves"]
+    if proved:
+        lines.append("\n## Proved\n\n| Crate | Function | Body |\n|---|---|---|")
+        lines += [f"| {crate} | {cell(function)} | {cell(text)} |" for crate, function, text in proved]
+    return "\n".join(lines) + "\n"
+
+
+def main():
+    names = [word for word in sys.argv[1:] if word != "--kept"]
+    unknown = [name for name in names if not (CRATES / name / "src").is_dir()]
+    if unknown:
+        sys.exit(f"no crate: {' '.join(unknown)}")
+    lacking = 0
+    for crate in [name for name in dependencies(ROOT) if name in names or not names and not LEFT_OUT.match(name)]:
+        said = planted(crate) if names == sys.argv[1:] else None
+        lacking += names == sys.argv[1:] and said is None
+        if said:
+            print(row(crate, said)[0], flush=True)
+    found = {crate: place(crate).read_text() for crate in dependencies(ROOT) if place(crate).exists()}
+    if found:
+        PAGE.write_text(page(found))
+    print(f"{len(found)} crates, {sum(row(crate, said)[1] for crate, said in found.items())} bodies proved")
+    return 1 if lacking else 0
+
+
+if __name__ == "__main__":
+    sys.exit(main())
