@@ -8,6 +8,7 @@ pub mod ByTables
 pub mod ListedTerms
 pub mod Rows
 pub mod Taken
+pub mod Decides
 pub mod Watched
 pub mod Placed
 pub mod Offers

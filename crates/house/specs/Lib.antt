@@ -6,3 +6,4 @@ pub mod Offered
 pub mod Waiting
 pub mod Filled
 pub mod Taken
+pub mod Decides

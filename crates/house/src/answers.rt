@@ -1,16 +1,8 @@
 //! Answering a question.
-ghost use Rattle.std.specs.Prelude.{◌≡◌, IfOk, MatchResult, None, Some};
+ghost use Rattle.std.specs.Prelude.{◌≡◌, MatchResult, None, Some};
 ghost use Rattle.proxy.specs.Rules.{first_failing};
 ghost use Rattle.house_rows.specs.declared.command.Command.TheVariants as command;
-ghost use Rattle.house_rows.specs.declared.settings.Settings.{Settings as TheSettings};
-ghost use Rattle.house_rows.specs.History.{History};
-ghost use Rattle.house_rows.specs.Keeping.{Faults, IsRead};
-ghost use Rattle.house_rows.specs.Tables.{tables_of};
-ghost use Rattle.house_rows.specs.Taken.{IsUndamaged};
-ghost use Rattle.house_rows.specs.Verdict.{IsHistory};
-ghost use Rattle.house.specs.Decided.{IfAccepted, IsDecided};
-ghost use Rattle.house.specs.Own.{IsOf};
-ghost use Rattle.house.specs.Taken.{CommandRowsFit, FitsByRows};
+ghost use Rattle.house.specs.Decides.{Decides};
 ghost use Rattle.house.specs.Waiting.{waiting_rules};
 
 use crate::targets::{is_text, on_item};
@@ -26,18 +18,8 @@ pub fn answer<'c, K: Keep>(
     number: u64,
     text: &'c Text,
 ) -> Result<Result<Change<'c>, Refusal>, KeepFault>
-    ensures decided { K.is_honest keep.new → (settings : TheSettings) (h : History) → IsHistory settings h
-        → K.content keep.old ≡ tables_of settings h → IfOk result (IsDecided settings h moment caller (command.Answer item asker number text.now)) }
-    ensures fits { K.is_honest keep.new
-        → FitsByRows (K.content keep.old) caller (command.Answer item asker number text.now)
-        result }
-    ensures own { K.is_honest keep.new
-        → IfAccepted result (IsOf moment caller (command.Answer item asker number text.now)) }
-    ensures faults { Faults result (K.is_honest keep.new) (K.is_failed keep.new) (K.content keep.old) }
-    ensures damaged { K.is_honest keep.new
-        → CommandRowsFit (K.content keep.old) caller (command.Answer item asker number text.now)
-        → IsUndamaged result }
-    ensures read { IsRead K.content K.is_failed K.is_honest K.may_leave keep.old keep.new }
+    ensures { Decides K.Keep keep.old keep.new result moment caller
+        (command.Answer item asker number text.now) }
 {
     let terms = match on_item(keep, moment, caller, item)? {
         Ok(on) => on.terms,

@@ -1,16 +1,13 @@
 //! Setting a new band table.
-ghost use Rattle.std.specs.Prelude.{◌≡◌, ◌+◌, ◌++◌, IfOk, false, true, length};
+ghost use Rattle.std.specs.Prelude.{◌≡◌, ◌+◌, ◌++◌, ⊤, IfOk, false, true, length};
 ghost use Rattle.proxy.specs.Rules.{first_failing};
+ghost use Rattle.house_rows.specs.Answers.{Answers};
 ghost use Rattle.house_rows.specs.declared.command.Command.TheVariants as command;
-ghost use Rattle.house_rows.specs.declared.settings.Settings.{Settings as TheSettings};
-ghost use Rattle.house_rows.specs.History.{History};
-ghost use Rattle.house_rows.specs.Keeping.{Faults, IsRead};
-ghost use Rattle.house_rows.specs.Tables.{tables_of};
+ghost use Rattle.house_rows.specs.Keeping.{Faults};
 ghost use Rattle.house_rows.specs.Taken.{IsUndamaged};
-ghost use Rattle.house_rows.specs.Verdict.{IsHistory, common_rules, table_rules};
-ghost use Rattle.house.specs.Decided.{IfAccepted, IsDecided};
-ghost use Rattle.house.specs.Own.{IsOf};
-ghost use Rattle.house.specs.Taken.{FitsByRows};
+ghost use Rattle.house_rows.specs.Verdict.{table_rules};
+ghost use Rattle.house.specs.Decides.{Decides};
+ghost use Rattle.house.specs.Judged.{first_rules};
 
 use crate::targets::common;
 use house_rows::{Change, Keep, KeepFault, MOST_EDITIONS, Refusal, Rows};
@@ -23,15 +20,7 @@ pub fn set_bands<'c, K: Keep>(
     caller: u64,
     bands: &'c Rows<(u64, u64)>,
 ) -> Result<Result<Change<'c>, Refusal>, KeepFault>
-    ensures decided { K.is_honest keep.new → (settings : TheSettings) (h : History) → IsHistory settings h
-        → K.content keep.old ≡ tables_of settings h → IfOk result (IsDecided settings h moment caller (command.SetBands bands.now)) }
-    ensures fits { K.is_honest keep.new
-        → FitsByRows (K.content keep.old) caller (command.SetBands bands.now) result }
-    ensures own { K.is_honest keep.new
-        → IfAccepted result (IsOf moment caller (command.SetBands bands.now)) }
-    ensures faults { Faults result (K.is_honest keep.new) (K.is_failed keep.new) (K.content keep.old) }
-    ensures damaged { K.is_honest keep.new → IsUndamaged result }
-    ensures read { IsRead K.content K.is_failed K.is_honest K.may_leave keep.old keep.new }
+    ensures { Decides K.Keep keep.old keep.new result moment caller (command.SetBands bands.now) }
 {
     match set_bands_refused(keep, moment, caller, bands)? {
         Some(refusal) => Ok(Err(refusal)),
@@ -50,12 +39,9 @@ fn set_bands_refused<K: Keep>(
     caller: u64,
     bands: &Rows<(u64, u64)>,
 ) -> Result<Option<Refusal>, KeepFault>
-    ensures value { K.is_honest keep.new → IfOk result (λ r. r ≡ first_failing (
-        common_rules (K.content keep.old).clock (length (K.content keep.old).members) moment caller true
-        ++ table_rules bands.now (length (K.content keep.old).editions + 1))) }
-    ensures faults { Faults result (K.is_honest keep.new) (K.is_failed keep.new) (K.content keep.old) }
-    ensures damaged { K.is_honest keep.new → IsUndamaged result }
-    ensures read { IsRead K.content K.is_failed K.is_honest K.may_leave keep.old keep.new }
+    ensures { Answers K.Keep keep.old keep.new result (λ t r. r ≡ first_failing (
+        first_rules t moment caller true ++ table_rules bands.now (length t.editions + 1)))
+        (λ _. ⊤) }
 {
     match common(keep, moment, caller, true)? {
         Some(refusal) => Ok(Some(refusal)),

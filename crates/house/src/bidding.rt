@@ -1,19 +1,11 @@
 //! Bidding.
-ghost use Rattle.std.specs.Prelude.{◌≡◌, List, IfOk, MatchResult, None, Some, option_map};
+ghost use Rattle.std.specs.Prelude.{◌≡◌, List, MatchResult, None, Some, option_map};
 ghost use Rattle.proxy.specs.Kept.{opening_of};
 ghost use Rattle.proxy.specs.declared.bid.Bid.{Bid as TheBid};
 ghost use Rattle.proxy.specs.Bids.{one_more, refusal, standing_of};
 ghost use Rattle.house_rows.specs.declared.command.Command.TheVariants as command;
-ghost use Rattle.house_rows.specs.declared.settings.Settings.{Settings as TheSettings};
-ghost use Rattle.house_rows.specs.History.{History};
-ghost use Rattle.house_rows.specs.Keeping.{Faults, IsRead};
-ghost use Rattle.house_rows.specs.Tables.{tables_of};
-ghost use Rattle.house_rows.specs.Taken.{IsUndamaged};
-ghost use Rattle.house_rows.specs.Verdict.{IsHistory};
-ghost use Rattle.house.specs.Decided.{IfAccepted, IsDecided};
-ghost use Rattle.house.specs.Own.{IsOf};
+ghost use Rattle.house.specs.Decides.{Decides};
 ghost use Rattle.house.specs.Refused.{as_refusal};
-ghost use Rattle.house.specs.Taken.{CommandRowsFit, FitsByRows};
 
 use crate::targets::{on_auction, open_refused};
 use cents::Cents;
@@ -31,17 +23,7 @@ pub fn bid<'c, K: Keep>(
     item: u64,
     maximum: u64,
 ) -> Result<Result<Change<'c>, Refusal>, KeepFault>
-    ensures decided { K.is_honest keep.new → (settings : TheSettings) (h : History) → IsHistory settings h
-        → K.content keep.old ≡ tables_of settings h → IfOk result (IsDecided settings h moment caller (command.Bid item maximum)) }
-    ensures fits { K.is_honest keep.new
-        → FitsByRows (K.content keep.old) caller (command.Bid item maximum) result }
-    ensures own { K.is_honest keep.new
-        → IfAccepted result (IsOf moment caller (command.Bid item maximum)) }
-    ensures faults { Faults result (K.is_honest keep.new) (K.is_failed keep.new) (K.content keep.old) }
-    ensures damaged { K.is_honest keep.new
-        → CommandRowsFit (K.content keep.old) caller (command.Bid item maximum)
-        → IsUndamaged result }
-    ensures read { IsRead K.content K.is_failed K.is_honest K.may_leave keep.old keep.new }
+    ensures { Decides K.Keep keep.old keep.new result moment caller (command.Bid item maximum) }
 {
     let on = match on_auction(keep, moment, caller, item)? {
         Ok(on) => on,

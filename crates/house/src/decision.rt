@@ -1,20 +1,10 @@
 //! Deciding on a command.
-ghost use Rattle.std.specs.Prelude.{◌≡◌, IfOk};
-ghost use Rattle.house_rows.specs.declared.settings.Settings.{Settings as TheSettings};
-ghost use Rattle.house_rows.specs.Asks.{ChangeFits};
-ghost use Rattle.house_rows.specs.History.{History};
-ghost use Rattle.house_rows.specs.Keeping.{AreSound, Faults, IsRead};
-ghost use Rattle.house_rows.specs.Tables.{tables_of};
-ghost use Rattle.house_rows.specs.Taken.{IsUndamaged};
-ghost use Rattle.house_rows.specs.Verdict.{IsHistory};
-ghost use Rattle.house.specs.Decided.{IfAccepted, IsDecided};
-ghost use Rattle.house.specs.Own.{IsOf};
-ghost use Rattle.house.specs.Taken.{CommandRowsFit, FitsByRows};
+ghost use Rattle.house.specs.Decides.{Decides};
 
 use crate::answers::answer;
+use crate::auction_end::close;
 use crate::bands::set_bands;
 use crate::bidding::bid;
-use crate::closure::close;
 use crate::listing::{Offer, list};
 use crate::people::{add_category, register};
 use crate::purchase::buy;
@@ -35,17 +25,7 @@ pub fn decide<'c, K: Keep>(
     caller: u64,
     command: &'c Command,
 ) -> Result<Result<Change<'c>, Refusal>, KeepFault>
-    ensures decided { K.is_honest keep.new → (settings : TheSettings) (h : History) → IsHistory settings h
-        → K.content keep.old ≡ tables_of settings h → IfOk result (IsDecided settings h moment caller command.now) }
-    ensures fits { K.is_honest keep.new
-        → FitsByRows (K.content keep.old) caller command.now result }
-    ensures sound { K.is_honest keep.new → AreSound (K.content keep.old)
-        → IfAccepted result (ChangeFits (K.content keep.old)) }
-    ensures own { K.is_honest keep.new → IfAccepted result (IsOf moment caller command.now) }
-    ensures faults { Faults result (K.is_honest keep.new) (K.is_failed keep.new) (K.content keep.old) }
-    ensures damaged { K.is_honest keep.new
-        → CommandRowsFit (K.content keep.old) caller command.now → IsUndamaged result }
-    ensures read { IsRead K.content K.is_failed K.is_honest K.may_leave keep.old keep.new }
+    ensures { Decides K.Keep keep.old keep.new result moment caller command.now }
 {
     match command {
         Command::Register { name } => register(keep, moment, caller, name),

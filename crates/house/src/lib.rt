@@ -3,16 +3,16 @@
 //!
 //! Promised of any keep and any history whose tables it keeps, while nothing is changed here; and of
 //! any sound tables, with a history or without, that the change is the command's own and fits them.
-//! Read `specs/Decided.antt` and `specs/Own.antt` first, then `decision`, whose `decide` is the call
-//! that matters, `common`, whose rules every command begins with, and `targets`, which finds the item
-//! that a command names.
+//! Read `specs/Decides.antt` first, with `Decided` and `Own` beside it, then `decision`, whose `decide`
+//! is the call that matters, and `targets`, which has the rules that every command begins with, and
+//! finds the item that a command names.
 #![tactic(auto)]
 
 mod answers;
+mod auction_end;
 mod bands;
 mod bidding;
 mod changes;
-mod closure;
 mod decision;
 mod listing;
 mod people;
@@ -25,10 +25,10 @@ mod watch_removal;
 mod watchlist;
 
 pub use answers::answer;
+pub use auction_end::close;
 pub use bands::set_bands;
 pub use bidding::bid;
 pub use changes::fill;
-pub use closure::close;
 pub use decision::decide;
 pub use listing::{Offer, list};
 pub use people::{add_category, register};

@@ -2,22 +2,17 @@
 ghost use Rattle.std.specs.Prelude.{◌≡◌, ◌<◌, ◌^◌, ◌==◌, ◌&&◌, ◌++◌, nat_le, IfOk, IfSome, OnOk, false, is_some};
 ghost use Rattle.std.specs.List.{list_all, list_any};
 ghost use Rattle.proxy.specs.Rules.{first_failing};
+ghost use Rattle.house_rows.specs.Answers.{Answers};
 ghost use Rattle.house_rows.specs.declared.command.Command.TheVariants as command;
-ghost use Rattle.house_rows.specs.declared.settings.Settings.{Settings as TheSettings};
 ghost use Rattle.house_rows.specs.Fits.{CategoryFits, IsItem};
 ghost use Rattle.house_rows.specs.Found.{category_at, item_with_lot};
-ghost use Rattle.house_rows.specs.History.{History};
-ghost use Rattle.house_rows.specs.Keeping.{Faults, IsRead};
 ghost use Rattle.house_rows.specs.Limits.{most_cents};
-ghost use Rattle.house_rows.specs.Tables.{tables_of};
-ghost use Rattle.house_rows.specs.Taken.{IsUndamaged};
 ghost use Rattle.house_rows.specs.Text.{has_length, is_lot, is_lot_byte, same_text};
-ghost use Rattle.house_rows.specs.Verdict.{IsHistory, are_terms, is_buy_now, is_reserve};
-ghost use Rattle.house.specs.Decided.{IfAccepted, IsDecided};
-ghost use Rattle.house.specs.Own.{IsOf};
+ghost use Rattle.house_rows.specs.Verdict.{are_terms, is_buy_now, is_reserve};
+ghost use Rattle.house.specs.Decides.{Decides};
 ghost use Rattle.house.specs.Judged.{first_rules};
 ghost use Rattle.house.specs.Offered.{AreOf, offer_rules, terms_rules, report};
-ghost use Rattle.house.specs.Taken.{CommandRowsFit, FitsByRows, LotAndCategoryFit};
+ghost use Rattle.house.specs.Taken.{LotAndCategoryFit};
 
 use crate::targets::{common, is_text};
 use cents::Cents;
@@ -61,23 +56,9 @@ pub fn list<'c, K: Keep>(
     caller: u64,
     offer: &Offer<'c>,
 ) -> Result<Result<Change<'c>, Refusal>, KeepFault>
-    ensures decided { K.is_honest keep.new → (settings : TheSettings) (h : History) → IsHistory settings h
-        → K.content keep.old ≡ tables_of settings h → IfOk result (IsDecided settings h moment caller
-        (command.List offer.now.category offer.now.lot.now offer.now.title.now offer.now.text.now offer.now.start offer.now.buy_now offer.now.end offer.now.reserve)) }
-    ensures fits { K.is_honest keep.new
-        → FitsByRows (K.content keep.old) caller
-        (command.List offer.now.category offer.now.lot.now offer.now.title.now offer.now.text.now
-        offer.now.start offer.now.buy_now offer.now.end offer.now.reserve)
-        result }
-    ensures own { K.is_honest keep.new → IfAccepted result (IsOf moment caller (command.List offer.now.category
-        offer.now.lot.now offer.now.title.now offer.now.text.now offer.now.start offer.now.buy_now offer.now.end offer.now.reserve)) }
-    ensures faults { Faults result (K.is_honest keep.new) (K.is_failed keep.new) (K.content keep.old) }
-    ensures damaged { K.is_honest keep.new
-        → CommandRowsFit (K.content keep.old) caller
-        (command.List offer.now.category offer.now.lot.now offer.now.title.now offer.now.text.now
-        offer.now.start offer.now.buy_now offer.now.end offer.now.reserve)
-        → IsUndamaged result }
-    ensures read { IsRead K.content K.is_failed K.is_honest K.may_leave keep.old keep.new }
+    ensures { Decides K.Keep keep.old keep.new result moment caller (command.List
+        offer.now.category offer.now.lot.now offer.now.title.now offer.now.text.now
+        offer.now.start offer.now.buy_now offer.now.end offer.now.reserve) }
 {
     let (category, prices) = match judge_offer(keep, moment, caller, offer)? {
         Ok(taken) => taken,
@@ -105,15 +86,11 @@ fn judge_offer<K: Keep>(
     caller: u64,
     offer: &Offer<'_>,
 ) -> Result<Result<(u32, Prices), Refusal>, KeepFault>
-    ensures value { K.is_honest keep.new → IfOk result (λ r. report r ≡ first_failing (
-        first_rules (K.content keep.old) moment caller false ++ offer_rules (K.content keep.old) moment caller offer.now)) }
+    ensures answers { Answers K.Keep keep.old keep.new result (λ t r. report r ≡ first_failing
+        (first_rules t moment caller false ++ offer_rules t moment caller offer.now))
+        (λ t. LotAndCategoryFit t caller offer.now.lot.now offer.now.category) }
     ensures same { K.is_honest keep.new → IfOk result (λ r. IfOk r (AreOf offer.now)) }
     ensures numbered { IfOk result (λ r. OnOk r (caller < 2 ^ 32)) }
-    ensures faults { Faults result (K.is_honest keep.new) (K.is_failed keep.new) (K.content keep.old) }
-    ensures damaged { K.is_honest keep.new
-        → LotAndCategoryFit (K.content keep.old) caller offer.now.lot.now offer.now.category
-        → IsUndamaged result }
-    ensures read { IsRead K.content K.is_failed K.is_honest K.may_leave keep.old keep.new }
 {
     match common(keep, moment, caller, false)? {
         Some(refusal) => Ok(Err(refusal)),
@@ -129,13 +106,10 @@ fn judge_lot<K: Keep>(
     offer: &Offer<'_>,
 ) -> Result<Result<(u32, Prices), Refusal>, KeepFault>
     requires going { K.is_failed keep.old ≡ false }
-    ensures value { K.is_honest keep.new → IfOk result (λ r. report r ≡ first_failing (offer_rules (K.content keep.old) moment caller offer.now)) }
+    ensures answers { Answers K.Keep keep.old keep.new result
+        (λ t r. report r ≡ first_failing (offer_rules t moment caller offer.now))
+        (λ t. LotAndCategoryFit t caller offer.now.lot.now offer.now.category) }
     ensures same { K.is_honest keep.new → IfOk result (λ r. IfOk r (AreOf offer.now)) }
-    ensures faults { Faults result (K.is_honest keep.new) (K.is_failed keep.new) (K.content keep.old) }
-    ensures damaged { K.is_honest keep.new
-        → LotAndCategoryFit (K.content keep.old) caller offer.now.lot.now offer.now.category
-        → IsUndamaged result }
-    ensures read { IsRead K.content K.is_failed K.is_honest K.may_leave keep.old keep.new }
 {
     if !is_lot(offer.lot) {
         return Ok(Err(Refusal::Range));
@@ -153,13 +127,10 @@ fn judge_terms<K: Keep>(
     offer: &Offer<'_>,
 ) -> Result<Result<(u32, Prices), Refusal>, KeepFault>
     requires going { K.is_failed keep.old ≡ false }
-    ensures value { K.is_honest keep.new → IfOk result (λ r. report r ≡ first_failing (terms_rules (K.content keep.old) moment offer.now)) }
+    ensures answers { Answers K.Keep keep.old keep.new result
+        (λ t r. report r ≡ first_failing (terms_rules t moment offer.now))
+        (λ t. IfSome (category_at t offer.now.category) CategoryFits) }
     ensures same { K.is_honest keep.new → IfOk result (λ r. IfOk r (AreOf offer.now)) }
-    ensures faults { Faults result (K.is_honest keep.new) (K.is_failed keep.new) (K.content keep.old) }
-    ensures damaged { K.is_honest keep.new
-        → IfSome (category_at (K.content keep.old) offer.now.category) CategoryFits
-        → IsUndamaged result }
-    ensures read { IsRead K.content K.is_failed K.is_honest K.may_leave keep.old keep.new }
 {
     let Some(prices) = prices_in_range(moment, offer) else {
         return Ok(Err(Refusal::Range));
@@ -176,12 +147,10 @@ fn judge_terms<K: Keep>(
 // The number of a category, if it is there.
 #[tactic(auto, using(crate::proofs::Offers::known_category))]
 fn category_number<K: Keep>(keep: &mut K, category: u64) -> Result<Option<u32>, KeepFault>
-    ensures value { K.is_honest keep.new → IfOk result (λ v. is_some v ≡ list_any (λ k. k.category == category) (K.content keep.old).categories) }
+    ensures answers { Answers K.Keep keep.old keep.new result
+        (λ t number. is_some number ≡ list_any (λ k. k.category == category) t.categories)
+        (λ t. IfSome (category_at t category) CategoryFits) }
     ensures same { K.is_honest keep.new → IfOk result (λ v. IfSome v (λ n. n ≡ category)) }
-    ensures faults { Faults result (K.is_honest keep.new) (K.is_failed keep.new) (K.content keep.old) }
-    ensures damaged { K.is_honest keep.new
-        → IfSome (category_at (K.content keep.old) category) CategoryFits → IsUndamaged result }
-    ensures read { IsRead K.content K.is_failed K.is_honest K.may_leave keep.old keep.new }
 {
     if keep.has_category(category)? {
         Ok(Some(category as u32))
@@ -193,12 +162,9 @@ fn category_number<K: Keep>(keep: &mut K, category: u64) -> Result<Option<u32>, 
 // Whether a seller has an item with a lot.
 #[tactic(auto, using(crate::proofs::Offers::lot_found))]
 fn has_lot<K: Keep>(keep: &mut K, seller: u64, lot: &Text) -> Result<bool, KeepFault>
-    ensures value { K.is_honest keep.new → IfOk result (λ v. v
-        ≡ list_any (λ row. (row.item.terms.seller == seller) && same_text row.item.lot lot.now) (K.content keep.old).items) }
-    ensures faults { Faults result (K.is_honest keep.new) (K.is_failed keep.new) (K.content keep.old) }
-    ensures damaged { K.is_honest keep.new
-        → IfSome (item_with_lot (K.content keep.old) seller lot.now) IsItem → IsUndamaged result }
-    ensures read { IsRead K.content K.is_failed K.is_honest K.may_leave keep.old keep.new }
+    ensures { Answers K.Keep keep.old keep.new result (λ t has. has ≡ list_any
+        (λ row. (row.item.terms.seller == seller) && same_text row.item.lot lot.now) t.items)
+        (λ t. IfSome (item_with_lot t seller lot.now) IsItem) }
 {
     Ok(keep.item_of(seller, lot.as_str())?.is_some())
 }

@@ -1,16 +1,9 @@
 //! Asking the seller of an item.
-ghost use Rattle.std.specs.Prelude.{◌≡◌, ◌+◌, IfOk, MatchResult, None, Some};
+ghost use Rattle.std.specs.Prelude.{◌≡◌, ◌+◌, MatchResult, None, Some};
 ghost use Rattle.proxy.specs.Rules.{first_failing};
 ghost use Rattle.house_rows.specs.declared.command.Command.TheVariants as command;
-ghost use Rattle.house_rows.specs.declared.settings.Settings.{Settings as TheSettings};
-ghost use Rattle.house_rows.specs.History.{History};
-ghost use Rattle.house_rows.specs.Keeping.{Faults, IsRead};
-ghost use Rattle.house_rows.specs.Tables.{tables_of};
-ghost use Rattle.house_rows.specs.Taken.{IsUndamaged};
-ghost use Rattle.house_rows.specs.Verdict.{IsHistory, question_rules};
-ghost use Rattle.house.specs.Decided.{IfAccepted, IsDecided};
-ghost use Rattle.house.specs.Own.{IsOf};
-ghost use Rattle.house.specs.Taken.{CommandRowsFit, FitsByRows};
+ghost use Rattle.house_rows.specs.Verdict.{question_rules};
+ghost use Rattle.house.specs.Decides.{Decides};
 
 use crate::targets::{is_text, on_item, open_refused};
 use house_rows::{Change, Keep, KeepFault, MOST_QUESTIONS, Refusal, Terms, Text};
@@ -23,17 +16,7 @@ pub fn ask<'c, K: Keep>(
     item: u64,
     text: &'c Text,
 ) -> Result<Result<Change<'c>, Refusal>, KeepFault>
-    ensures decided { K.is_honest keep.new → (settings : TheSettings) (h : History) → IsHistory settings h
-        → K.content keep.old ≡ tables_of settings h → IfOk result (IsDecided settings h moment caller (command.Ask item text.now)) }
-    ensures fits { K.is_honest keep.new
-        → FitsByRows (K.content keep.old) caller (command.Ask item text.now) result }
-    ensures own { K.is_honest keep.new
-        → IfAccepted result (IsOf moment caller (command.Ask item text.now)) }
-    ensures faults { Faults result (K.is_honest keep.new) (K.is_failed keep.new) (K.content keep.old) }
-    ensures damaged { K.is_honest keep.new
-        → CommandRowsFit (K.content keep.old) caller (command.Ask item text.now)
-        → IsUndamaged result }
-    ensures read { IsRead K.content K.is_failed K.is_honest K.may_leave keep.old keep.new }
+    ensures { Decides K.Keep keep.old keep.new result moment caller (command.Ask item text.now) }
 {
     let on = match on_item(keep, moment, caller, item)? {
         Ok(on) => on,

@@ -1,13 +1,11 @@
 //! What every command begins with, and every command on an item.
-ghost use Rattle.std.specs.Prelude.{◌≡◌, ◌<◌, ◌^◌, ◌++◌, List, IfOk, OnOk, MatchResult, None, Some, false, length, ◌≤◌, ◌&&◌};
+ghost use Rattle.std.specs.Prelude.{◌≡◌, ◌<◌, ◌^◌, ⊤, List, IfOk, OnOk, MatchResult, None, Some, false, ◌≤◌, ◌&&◌};
 ghost use Rattle.proxy.specs.Rules.{first_failing};
+ghost use Rattle.house_rows.specs.Answers.{Answers};
 ghost use Rattle.house_rows.specs.declared.item.Terms.{Terms as TheTerms};
 ghost use Rattle.house_rows.specs.Found.{standing_at, terms_at};
-ghost use Rattle.house_rows.specs.Keeping.{Faults, IsRead};
-ghost use Rattle.house_rows.specs.Taken.{IsUndamaged};
-ghost use Rattle.house_rows.specs.Verdict.{Rule, common_rules, open_rules};
-ghost use Rattle.house.specs.Decided.{of_terms};
-ghost use Rattle.house.specs.Judged.{IsNamed};
+ghost use Rattle.house_rows.specs.Verdict.{Rule, open_rules};
+ghost use Rattle.house.specs.Judged.{IsNamed, first_rules, item_rules};
 ghost use Rattle.house.specs.Taken.{ItemAtFits};
 ghost use Rattle.house_rows.specs.Text.{has_length, is_text};
 
@@ -45,12 +43,9 @@ pub(crate) fn named_item<K: Keep>(
     of_house: bool,
     item: u64,
 ) -> Result<Result<Terms, Refusal>, KeepFault>
-    ensures value { K.is_honest keep.new → IfOk result (IsNamed (K.content keep.old) moment caller of_house item) }
+    ensures answers { Answers K.Keep keep.old keep.new result
+        (λ t named. IsNamed t moment caller of_house item named) (λ t. ItemAtFits t item) }
     ensures numbered { IfOk result (λ r. OnOk r (caller < 2 ^ 32)) }
-    ensures faults { Faults result (K.is_honest keep.new) (K.is_failed keep.new) (K.content keep.old) }
-    ensures damaged { K.is_honest keep.new
-        → ItemAtFits (K.content keep.old) item → IsUndamaged result }
-    ensures read { IsRead K.content K.is_failed K.is_honest K.may_leave keep.old keep.new }
 {
     if let Some(refusal) = common(keep, moment, caller, of_house)? {
         return Ok(Err(refusal));
@@ -66,16 +61,12 @@ pub(crate) fn on_item<K: Keep>(
     caller: u64,
     item: u64,
 ) -> Result<Result<OnItem, Refusal>, KeepFault>
-    ensures value { K.is_honest keep.new → IfOk result (λ r. MatchResult r
-        (λ on. (on.member ≡ caller) × (terms_at (K.content keep.old) item ≡ Some on.terms)
-        × (None ≡ first_failing (common_rules (K.content keep.old).clock (length (K.content keep.old).members) moment caller false)))
-        (λ refusal. (rules : TheTerms → List Rule) → Some refusal ≡ first_failing (
-        common_rules (K.content keep.old).clock (length (K.content keep.old).members) moment caller false
-        ++ of_terms (terms_at (K.content keep.old) item) rules))) }
-    ensures faults { Faults result (K.is_honest keep.new) (K.is_failed keep.new) (K.content keep.old) }
-    ensures damaged { K.is_honest keep.new
-        → ItemAtFits (K.content keep.old) item → IsUndamaged result }
-    ensures read { IsRead K.content K.is_failed K.is_honest K.may_leave keep.old keep.new }
+    ensures { Answers K.Keep keep.old keep.new result (λ t r. MatchResult r
+        (λ on. (on.member ≡ caller) × (terms_at t item ≡ Some on.terms)
+        × (None ≡ first_failing (first_rules t moment caller false)))
+        (λ refusal. (rules : TheTerms → List Rule)
+        → Some refusal ≡ first_failing (item_rules t moment caller false item rules)))
+        (λ t. ItemAtFits t item) }
 {
     let terms = match named_item(keep, moment, caller, false, item)? {
         Ok(terms) => terms,
@@ -96,17 +87,13 @@ pub(crate) fn on_auction<K: Keep>(
     caller: u64,
     item: u64,
 ) -> Result<Result<OnAuction, Refusal>, KeepFault>
-    ensures value { K.is_honest keep.new → IfOk result (λ r. MatchResult r
-        (λ on. (on.member ≡ caller) × (terms_at (K.content keep.old) item ≡ Some on.terms)
-        × (standing_at (K.content keep.old) item ≡ Some on.standing)
-        × (None ≡ first_failing (common_rules (K.content keep.old).clock (length (K.content keep.old).members) moment caller false)))
-        (λ refusal. (rules : TheTerms → List Rule) → Some refusal ≡ first_failing (
-        common_rules (K.content keep.old).clock (length (K.content keep.old).members) moment caller false
-        ++ of_terms (terms_at (K.content keep.old) item) rules))) }
-    ensures faults { Faults result (K.is_honest keep.new) (K.is_failed keep.new) (K.content keep.old) }
-    ensures damaged { K.is_honest keep.new
-        → ItemAtFits (K.content keep.old) item → IsUndamaged result }
-    ensures read { IsRead K.content K.is_failed K.is_honest K.may_leave keep.old keep.new }
+    ensures { Answers K.Keep keep.old keep.new result (λ t r. MatchResult r
+        (λ on. (on.member ≡ caller) × (terms_at t item ≡ Some on.terms)
+        × (standing_at t item ≡ Some on.standing)
+        × (None ≡ first_failing (first_rules t moment caller false)))
+        (λ refusal. (rules : TheTerms → List Rule)
+        → Some refusal ≡ first_failing (item_rules t moment caller false item rules)))
+        (λ t. ItemAtFits t item) }
 {
     if let Some(refusal) = common(keep, moment, caller, false)? {
         return Ok(Err(refusal));
@@ -146,12 +133,9 @@ pub(crate) fn common<K: Keep>(
     caller: u64,
     of_house: bool,
 ) -> Result<Option<Refusal>, KeepFault>
-    ensures value { K.is_honest keep.new → IfOk result (λ r. r ≡ first_failing
-        (common_rules (K.content keep.old).clock (length (K.content keep.old).members) moment caller of_house)) }
+    ensures answers { Answers K.Keep keep.old keep.new result
+        (λ t r. r ≡ first_failing (first_rules t moment caller of_house)) (λ _. ⊤) }
     ensures numbered { IfOk result (λ r. r ≡ None → caller < 2 ^ 32) }
-    ensures faults { Faults result (K.is_honest keep.new) (K.is_failed keep.new) (K.content keep.old) }
-    ensures damaged { K.is_honest keep.new → IsUndamaged result }
-    ensures read { IsRead K.content K.is_failed K.is_honest K.may_leave keep.old keep.new }
 {
     let members = keep.counts()?.members;
     let clock = keep.clock()?;

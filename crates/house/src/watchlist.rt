@@ -1,18 +1,12 @@
 //! Watching an item.
-ghost use Rattle.std.specs.Prelude.{◌≡◌, ◌==◌, ◌||◌, IfOk, nat_lt};
+ghost use Rattle.std.specs.Prelude.{◌≡◌, ◌==◌, ◌||◌, nat_lt};
+ghost use Rattle.house_rows.specs.Answers.{Answers};
 ghost use Rattle.house_rows.specs.declared.command.Command.TheVariants as command;
-ghost use Rattle.house_rows.specs.declared.settings.Settings.{Settings as TheSettings};
 ghost use Rattle.house_rows.specs.Fits.{WatchRowFits};
 ghost use Rattle.house_rows.specs.Found.{is_watched, watch_count};
-ghost use Rattle.house_rows.specs.History.{History};
-ghost use Rattle.house_rows.specs.Keeping.{Faults, IsRead};
 ghost use Rattle.house_rows.specs.Limits.{most_watches};
-ghost use Rattle.house_rows.specs.Tables.{tables_of};
-ghost use Rattle.house_rows.specs.Taken.{FitWhere, IsUndamaged};
-ghost use Rattle.house_rows.specs.Verdict.{IsHistory};
-ghost use Rattle.house.specs.Decided.{IfAccepted, IsDecided};
-ghost use Rattle.house.specs.Own.{IsOf};
-ghost use Rattle.house.specs.Taken.{CommandRowsFit, FitsByRows};
+ghost use Rattle.house_rows.specs.Taken.{FitWhere};
+ghost use Rattle.house.specs.Decides.{Decides};
 
 use crate::targets::on_item;
 use house_rows::{Change, Keep, KeepFault, MOST_WATCHES, Refusal};
@@ -24,16 +18,7 @@ pub fn watch<'c, K: Keep>(
     caller: u64,
     item: u64,
 ) -> Result<Result<Change<'c>, Refusal>, KeepFault>
-    ensures decided { K.is_honest keep.new → (settings : TheSettings) (h : History) → IsHistory settings h
-        → K.content keep.old ≡ tables_of settings h → IfOk result (IsDecided settings h moment caller (command.Watch item)) }
-    ensures fits { K.is_honest keep.new
-        → FitsByRows (K.content keep.old) caller (command.Watch item) result }
-    ensures own { K.is_honest keep.new
-        → IfAccepted result (IsOf moment caller (command.Watch item)) }
-    ensures faults { Faults result (K.is_honest keep.new) (K.is_failed keep.new) (K.content keep.old) }
-    ensures damaged { K.is_honest keep.new
-        → CommandRowsFit (K.content keep.old) caller (command.Watch item) → IsUndamaged result }
-    ensures read { IsRead K.content K.is_failed K.is_honest K.may_leave keep.old keep.new }
+    ensures { Decides K.Keep keep.old keep.new result moment caller (command.Watch item) }
 {
     let on = match on_item(keep, moment, caller, item)? {
         Ok(on) => on,
@@ -50,13 +35,9 @@ pub fn watch<'c, K: Keep>(
 
 // Whether a member watches the item already, which then takes no room, or has room for it.
 fn may_watch<K: Keep>(keep: &mut K, member: u64, item: u64) -> Result<bool, KeepFault>
-    ensures value { K.is_honest keep.new → IfOk result (λ v. v ≡ (
-        is_watched (K.content keep.old) member item || nat_lt (watch_count (K.content keep.old) member) most_watches)) }
-    ensures faults { Faults result (K.is_honest keep.new) (K.is_failed keep.new) (K.content keep.old) }
-    ensures damaged { K.is_honest keep.new
-        → FitWhere (λ w. w.member == member) WatchRowFits (K.content keep.old).watches
-        → IsUndamaged result }
-    ensures read { IsRead K.content K.is_failed K.is_honest K.may_leave keep.old keep.new }
+    ensures { Answers K.Keep keep.old keep.new result
+        (λ t may. may ≡ (is_watched t member item || nat_lt (watch_count t member) most_watches))
+        (λ t. FitWhere (λ w. w.member == member) WatchRowFits t.watches) }
 {
     if keep.watched(member, item)? {
         return Ok(true);

@@ -4,7 +4,7 @@ use Rattle.std.specs.Prelude.{◌==◌, if◌then◌else◌}
 use Rattle.std.proofs.lemmas.Bool.Decides.{nat_tests}
 use Rattle.house_rows.specs.declared.command.Command.{Command}
 use Rattle.house_rows.specs.declared.message.Message.{Message}
-use Rattle.house_rows.specs.declared.message.Message.TheVariants.{Broken, Order, Read}
+use Rattle.house_rows.specs.declared.message.Message.TheVariants.{Broken, Write, Read}
 use Rattle.house_rows.specs.declared.query.Query.{Query}
 use Rattle.house_rows.specs.declared.refusal.Refusal.{Refusal}
 use Rattle.house_rows.specs.declared.reply.Reply.{Reply}
@@ -38,8 +38,8 @@ report_if settings c h k t command None alike after =
 report_if settings c h k t command (Some refusal) alike after = refl
 
 order_same : {F : Type 0} (settings : Settings) (c : ℕ) (h k : History) (t : ℕ) (command : Command) → AreAlike settings c h k
-    → public_view settings (next {F = F} settings h (Order t c command)) ≡ public_view settings (next {F = F} settings k (Order t c command))
-    → reply {F = F} settings h (Order t c command) ≡ reply {F = F} settings k (Order t c command)
+    → public_view settings (next {F = F} settings h (Write t c command)) ≡ public_view settings (next {F = F} settings k (Write t c command))
+    → reply {F = F} settings h (Write t c command) ≡ reply {F = F} settings k (Write t c command)
 unfolding reply next
 order_same {F = F} settings c h k t command alike after =
     let v : verdict settings h t c command ≡ verdict settings k t c command = verdict_same settings c h k t command alike in
@@ -57,9 +57,9 @@ broken_same settings h k caller fault = refl
 -- Output: the reply to a member's message depends on the three views before it, and where the message is accepted on the public view after it
 pub reply_same : {F : Type 0} (settings : Settings) (c : ℕ) (h k : History) (m : Message F) → is_of c m ≡ true → AreAlike settings c h k
     → public_view settings (next settings h m) ≡ public_view settings (next settings k m) → reply settings h m ≡ reply settings k m
-reply_same {F = F} settings c h k (Order t caller command) is alike after =
+reply_same {F = F} settings c h k (Write t caller command) is alike after =
     let me : caller ≡ c = grind (arith, nat_tests) in
-    let after' : public_view settings (next {F = F} settings h (Order t c command)) ≡ public_view settings (next {F = F} settings k (Order t c command)) = rw me at after in
+    let after' : public_view settings (next {F = F} settings h (Write t c command)) ≡ public_view settings (next {F = F} settings k (Write t c command)) = rw me at after in
     rw me (order_same {F = F} settings c h k t command alike after')
 reply_same {F = F} settings c h k (Read caller q) is alike after =
     let me : caller ≡ c = grind (arith, nat_tests) in
@@ -78,13 +78,13 @@ entered_own settings (Some refusal) c h k t command alike = alike.own
 -- and so does the message itself
 pub own_other : {F : Type 0} (settings : Settings) (c : ℕ) (h : History) (m : Message F) → is_of c m ≡ false → own_view (next settings h m) c ≡ own_view h c
 unfolding next
-own_other settings c h (Order t caller command) other = entered_other (verdict settings h t caller command) c h (entry t caller command) other
+own_other settings c h (Write t caller command) other = entered_other (verdict settings h t caller command) c h (entry t caller command) other
 own_other settings c h (Read caller q) other = refl
 own_other settings c h (Broken caller fault) other = refl
 
 own_mine : {F : Type 0} (settings : Settings) (c : ℕ) (h k : History) (m : Message F) → is_of c m ≡ true → AreAlike settings c h k → own_view (next settings h m) c ≡ own_view (next settings k m) c
 unfolding next
-own_mine settings c h k (Order t caller command) is alike =
+own_mine settings c h k (Write t caller command) is alike =
     let me : caller ≡ c = grind (arith, nat_tests) in
     let v : verdict settings h t c command ≡ verdict settings k t c command = verdict_same settings c h k t command alike in
     rw (me, v) (entered_own settings (verdict settings k t c command) c h k t command alike)

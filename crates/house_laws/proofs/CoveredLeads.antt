@@ -15,7 +15,7 @@ use Rattle.proxy.proofs.Surpluses.{surplus_tops}
 use Rattle.house_rows.specs.declared.command.Command.TheVariants.{Bid}
 use Rattle.house_rows.specs.declared.item.ItemShown.{ItemShown}
 use Rattle.house_rows.specs.declared.message.Message.{Message}
-use Rattle.house_rows.specs.declared.message.Message.TheVariants.{Broken, Order, Read}
+use Rattle.house_rows.specs.declared.message.Message.TheVariants.{Broken, Write, Read}
 use Rattle.house_rows.specs.declared.refusal.Refusal.{Refusal}
 use Rattle.house_rows.specs.declared.settings.Settings.{Settings}
 use Rattle.house_rows.specs.Bids.{bids_on}
@@ -47,7 +47,7 @@ entered_listed (Some r) h e i l listed = listed
 
 next_listed : {F : Type 0} (settings : Settings) (h : History) (m : Message F) (i : ℕ) (l : Listing) → listing_at (listings h) i ≡ Some l → listing_at (listings (next settings h m)) i ≡ Some l
 unfolding next
-next_listed settings h (Order t d command) i l listed = entered_listed (verdict settings h t d command) h (entry t d command) i l listed
+next_listed settings h (Write t d command) i l listed = entered_listed (verdict settings h t d command) h (entry t d command) i l listed
 next_listed settings h (Read d query) i l listed = listed
 next_listed settings h (Broken caller fault) i l listed = listed
 

@@ -18,7 +18,7 @@ use Rattle.house_rows.specs.declared.command.Command.{Command}
 use Rattle.house_rows.specs.declared.command.Command.TheVariants.{Register, AddCategory, List as Listed, Bid, Buy, Close, Settle, Watch, Unwatch, Ask, Answer, Feedback, SetBands}
 use Rattle.house_rows.specs.declared.item.ItemShown.{ItemShown}
 use Rattle.house_rows.specs.declared.message.Message.{Message}
-use Rattle.house_rows.specs.declared.message.Message.TheVariants.{Broken, Order, Read}
+use Rattle.house_rows.specs.declared.message.Message.TheVariants.{Broken, Write, Read}
 use Rattle.house_rows.specs.declared.refusal.Refusal.{Refusal}
 use Rattle.house_rows.specs.declared.settings.Settings.{Settings}
 use Rattle.house_rows.specs.Bids.{bid_in, bids_on}
@@ -45,7 +45,7 @@ entered_grows (Some r) h e i = ([], sym (append-nil (bids_on h i)))
 
 next_grows : {F : Type 0} (settings : Settings) (h : History) (m : Message F) (i : ℕ) → (more : List bid.Bid) × (bids_on (next settings h m) i ≡ bids_on h i ++ more)
 unfolding next
-next_grows settings h (Order t d command) i = entered_grows (verdict settings h t d command) h (entry t d command) i
+next_grows settings h (Write t d command) i = entered_grows (verdict settings h t d command) h (entry t d command) i
 next_grows settings h (Read d query) i = ([], sym (append-nil (bids_on h i)))
 next_grows settings h (Broken caller fault) i = ([], sym (append-nil (bids_on h i)))
 
@@ -122,14 +122,14 @@ no_more_next settings w i h m ms none =
     omega arith
 
 none_accepted : (F : Type 0) (settings : Settings) (w i : ℕ) (h : History) (t d : ℕ) (command : Command) (ms : List (Message F))
-    → mine w i (history_from settings h (Order t d command ∷ ms)) ≡ mine w i h → is_bid_by w i d command ≡ true → verdict settings h t d command ≢ None
+    → mine w i (history_from settings h (Write t d command ∷ ms)) ≡ mine w i h → is_bid_by w i d command ≡ true → verdict settings h t d command ≢ None
 none_accepted F settings w i h t d command ms none is accepted =
-    let e : next {F = F} settings h (Order t d command) ≡ entry t d command ∷ h = next_accepted F settings h t d command accepted in
+    let e : next {F = F} settings h (Write t d command) ≡ entry t d command ∷ h = next_accepted F settings h t d command accepted in
     let one = bid_counts w i h t d command is in
-    let rest : mine w i (next {F = F} settings h (Order t d command)) ≤ mine w i (history_from settings (next {F = F} settings h (Order t d command)) ms) =
-    mine_grows settings w i (next {F = F} settings h (Order t d command)) ms in
-    let same : mine w i (next {F = F} settings h (Order t d command)) ≡ mine w i (entry t d command ∷ h) = ap (mine w i) e in
-    let none' : mine w i (history_from settings (next {F = F} settings h (Order t d command)) ms) ≡ mine w i h = none in
+    let rest : mine w i (next {F = F} settings h (Write t d command)) ≤ mine w i (history_from settings (next {F = F} settings h (Write t d command)) ms) =
+    mine_grows settings w i (next {F = F} settings h (Write t d command)) ms in
+    let same : mine w i (next {F = F} settings h (Write t d command)) ≡ mine w i (entry t d command ∷ h) = ap (mine w i) e in
+    let none' : mine w i (history_from settings (next {F = F} settings h (Write t d command)) ms) ≡ mine w i h = none in
     omega (arith, one, rest, same, none')
 
 -- the bidder's rules are no harder at a lower maximum of its own, and a higher bid passes them
@@ -218,7 +218,7 @@ message_covered : {F : Type 0} (settings : Settings) (bands : List (ℕ × ℕ))
     → mine w i (history_from settings h (m ∷ ms)) ≡ mine w i h → AreCovered bands x (bids_not_by w (bids_on (history_from settings h (m ∷ ms)) i)) → MessageCovered settings bands w i x h k m
 message_covered settings bands reserve w i x y h k (Read d query) ms le near none all = tt
 message_covered settings bands reserve w i x y h k (Broken caller fault) ms le near none all = tt
-message_covered {F = F} settings bands reserve w i x y h k (Order t d command) ms le near none all = (
+message_covered {F = F} settings bands reserve w i x y h k (Write t d command) ms le near none all = (
   λ is. (
     none_accepted F settings w i h t d command ms none is,
     its_bid_refused settings bands reserve w i x y h k t d command le near is (none_accepted F settings w i h t d command ms none is),
@@ -227,7 +227,7 @@ message_covered {F = F} settings bands reserve w i x y h k (Order t d command) m
       elim (by_test (is_bid_by w i d command)) [
         | inl is ↦ absurd (none_accepted F settings w i h t d command ms none is accepted)
         | inr differ ↦ bid_covered_by bands w i x h d (length (bids_on h i) + 1) command differ
-            (rw (next_accepted F settings h t d command accepted) at (others_before settings bands w i x (next {F = F} settings h (Order t d command)) ms all))
+            (rw (next_accepted F settings h t d command accepted) at (others_before settings bands w i x (next {F = F} settings h (Write t d command)) ms all))
       ],
 )
 
@@ -300,7 +300,7 @@ after_bid {F = F} meant settings y b h here other later valid history is raises 
     let all : AreCovered bands x (bids_not_by w (bids_on h i)) = others_before settings bands w i x h (map meant (here ∷ later)) last in
     let raised = raised_accepted settings w i t x y h le covered.fits covered.accepted in
     let leads = first_or_above bands w x (bids_on h i) (leader (bids_on h i)) refl fits (own_rises settings h t w i x covered.accepted) all in
-    let near : Near settings bands reserve w i x y (next {F = F} settings h (Order t w (Bid i x))) (next {F = F} settings h (Order t w (Bid i y))) =
+    let near : Near settings bands reserve w i x y (next {F = F} settings h (Write t w (Bid i x))) (next {F = F} settings h (Write t w (Bid i y))) =
     near_raised F settings bands reserve w i t x y h covered.listing covered.listed refl refl covered.covers.1 le covered.accepted raised leads all in
     let one : mine w i (next settings h (meant here)) ≡ mine w i h + 1 =
     rw (is, next_accepted F settings h t w (Bid i x) covered.accepted) (bid_counts w i h t w (Bid i x) (grind (arith, nat_tests))) in

@@ -10,7 +10,7 @@ use Rattle.proxy.proofs.Surpluses.{surplus_first, surplus_greatest, surplus_more
 use Rattle.house_rows.specs.declared.command.Command.{Command}
 use Rattle.house_rows.specs.declared.command.Command.TheVariants.{Register, AddCategory, List as Listed, Bid, Buy, Close, Settle, Watch, Unwatch, Ask, Answer, Feedback, SetBands}
 use Rattle.house_rows.specs.declared.message.Message.{Message}
-use Rattle.house_rows.specs.declared.message.Message.TheVariants.{Broken, Order, Read}
+use Rattle.house_rows.specs.declared.message.Message.TheVariants.{Broken, Write, Read}
 use Rattle.house_rows.specs.declared.refusal.Refusal.{Refusal}
 use Rattle.house_rows.specs.declared.settings.Settings.{Settings}
 use Rattle.house_rows.specs.declared.talk.Feedback as row
@@ -268,7 +268,7 @@ near_step settings bands reserve w i x y h k e le differ covered near = record {
 
 -- one more message, the same in both: no bid of that bidder on that item is accepted in either, and of others' each is covered
 abbrev pub MessageCovered : {F : Type 0} → Settings → List (ℕ × ℕ) → ℕ → ℕ → ℕ → History → History → Message F → Type 0
-MessageCovered settings bands w i x h k (Order t d command) =
+MessageCovered settings bands w i x h k (Write t d command) =
     (is_bid_by w i d command ≡ true → (verdict settings h t d command ≢ None) × (verdict settings k t d command ≢ None))
     × (verdict settings h t d command ≡ None → BidCovered bands i x command)
 MessageCovered settings bands w i x h k (Read d query) = Unit {0}
@@ -286,7 +286,7 @@ none_entered (Some r) e h refused = refl
 pub near_next : {F : Type 0} (settings : Settings) (bands : List (ℕ × ℕ)) (reserve : Option ℕ) (w i x y : ℕ) (h k : History) (m : Message F) → x ≤ y → MessageCovered settings bands w i x h k m → Near settings bands reserve w i x y h k
     → Near settings bands reserve w i x y (next settings h m) (next settings k m)
 unfolding next
-near_next settings bands reserve w i x y h k (Order t d command) le covered near =
+near_next settings bands reserve w i x y h k (Write t d command) le covered near =
     elim (by_test (is_bid_by w i d command)) [
       | inl is ↦ (let refused = covered.0 is in
           rw (none_entered (verdict settings h t d command) (entry t d command) h refused.0, none_entered (verdict settings k t d command) (entry t d command) k refused.1) near)
@@ -324,6 +324,6 @@ near_first settings bands reserve w i t x y h l listed goes asks met le lt all =
 
 pub near_raised : (F : Type 0) (settings : Settings) (bands : List (ℕ × ℕ)) (reserve : Option ℕ) (w i t x y : ℕ) (h : History) (l : Listing) → listing_at (listings h) i ≡ Some l → bands_by settings l ≡ bands → l.reserve ≡ reserve → IfSome reserve (λ r. r ≤ x) → x ≤ y → verdict settings h t w (Bid i x) ≡ None → verdict settings h t w (Bid i y) ≡ None
     → (bids_on h i ≡ []) ⊎ (top (bids_on h i) < x) → AreCovered bands x (bids_not_by w (bids_on h i))
-    → Near settings bands reserve w i x y (next {F = F} settings h (Order t w (Bid i x))) (next {F = F} settings h (Order t w (Bid i y)))
+    → Near settings bands reserve w i x y (next {F = F} settings h (Write t w (Bid i x))) (next {F = F} settings h (Write t w (Bid i y)))
 near_raised F settings bands reserve w i t x y h l listed goes asks met le accepted raised leads all =
     rw (next_accepted F settings h t w (Bid i x) accepted, next_accepted F settings h t w (Bid i y) raised) (near_first settings bands reserve w i t x y h l listed goes asks met le leads all)

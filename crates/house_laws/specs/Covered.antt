@@ -4,7 +4,7 @@ use Rattle.proxy.specs.Bids.{bids_by, leader, second, top}
 use Rattle.proxy.specs.Surplus.{Covers}
 use Rattle.house_rows.specs.declared.command.Command.TheVariants.{Bid}
 use Rattle.house_rows.specs.declared.message.Message.{Message}
-use Rattle.house_rows.specs.declared.message.Message.TheVariants.{Order}
+use Rattle.house_rows.specs.declared.message.Message.TheVariants.{Write}
 use Rattle.house_rows.specs.declared.settings.Settings.{Settings}
 use Rattle.house_rows.specs.Bids.{bids_on}
 use Rattle.house_rows.specs.History.{History}
@@ -22,7 +22,7 @@ pub record Sealed : Type 0 where
 
 -- the message of such a bid
 abbrev pub bid_message : {F : Type 0} → Sealed → Message F
-bid_message b = Order b.moment b.member (Bid b.item b.maximum)
+bid_message b = Write b.moment b.member (Bid b.item b.maximum)
 
 -- the same bid with another maximum
 abbrev pub with_maximum : ℕ → Sealed → Sealed

@@ -4,7 +4,7 @@ use Rattle.house_rows.specs.declared.command.Command.{Command}
 use Rattle.house_rows.specs.declared.command.Command.TheVariants.{List as Listed, Bid, Close}
 use Rattle.house_rows.specs.declared.item.ItemShown.{ItemShown}
 use Rattle.house_rows.specs.declared.message.Message.{Message}
-use Rattle.house_rows.specs.declared.message.Message.TheVariants.{Order, Read}
+use Rattle.house_rows.specs.declared.message.Message.TheVariants.{Write, Read}
 use Rattle.house_rows.specs.declared.page.Page.TheVariants.{Refused, Reserves}
 use Rattle.house_rows.specs.declared.query.Query.TheVariants as query
 use Rattle.house_rows.specs.declared.refusal.Refusal.TheVariants.{NoCaller, Range}
@@ -94,7 +94,7 @@ ReservesAreTheSellers =
 -- Ana lists item 2 with a reserve, Ben bids 7.00 on it, and reads it
 abbrev pub run_reserved : {F : Type 0} → ℕ → List (Message F)
 run_reserved reserve = setup_messages ++
-    (Order 1000 1 (lists_reserved reserve) ∷ Order 1001 2 (Bid 2 700) ∷ Read 2 (query.Item 2) ∷ [])
+    (Write 1000 1 (lists_reserved reserve) ∷ Write 1001 2 (Bid 2 700) ∷ Read 2 (query.Item 2) ∷ [])
 
 -- Ben can't know whether the reserve is 9.00 or 20.00
 abbrev pub SealedReservesMakeTwins : Type 0 → Type 0

@@ -2,7 +2,7 @@
 use Rattle.std.specs.Prelude.{ℕ, List, [], ◌∷◌, ◌++◌}
 use Rattle.house_rows.specs.declared.command.Command.TheVariants.{Bid}
 use Rattle.house_rows.specs.declared.message.Message.{Message}
-use Rattle.house_rows.specs.declared.message.Message.TheVariants.{Order, Read}
+use Rattle.house_rows.specs.declared.message.Message.TheVariants.{Write, Read}
 use Rattle.house_rows.specs.declared.query.Query.TheVariants as query
 use Rattle.house_rows.specs.Runs.{Twin}
 use Rattle.house_laws.specs.Covered.{IsCovered, Sealed}
@@ -24,7 +24,7 @@ LessThanAStepMakesNoTwin F = Twin {F = F} settings 2 (run_with 1040) (run_with 8
 
 -- Cid bids an amount, and then 50.00
 abbrev pub run_then : {F : Type 0} → ℕ → List (Message F)
-run_then amount = setup_messages ++ (Order 1001 2 (Bid 1 1000) ∷ Order 1002 3 (Bid 1 amount) ∷ Order 1003 3 (Bid 1 5000) ∷ [])
+run_then amount = setup_messages ++ (Write 1001 2 (Bid 1 1000) ∷ Write 1002 3 (Bid 1 amount) ∷ Write 1003 3 (Bid 1 5000) ∷ [])
 
 -- after 80.00 these are refused, and the count of bids would show it
 abbrev pub BidThatIsNotTheLastMakesNoTwin : Type 0 → Type 0
@@ -32,7 +32,7 @@ BidThatIsNotTheLastMakesNoTwin F = Twin {F = F} settings 2 (run_then 3000) (run_
 
 -- Cid bids an amount, and then Ben 31.00
 abbrev pub run_under : {F : Type 0} → ℕ → List (Message F)
-run_under amount = setup_messages ++ (Order 1001 2 (Bid 1 1000) ∷ Order 1002 3 (Bid 1 amount) ∷ Order 1003 2 (Bid 1 3100) ∷ [])
+run_under amount = setup_messages ++ (Write 1001 2 (Bid 1 1000) ∷ Write 1002 3 (Bid 1 amount) ∷ Write 1003 2 (Bid 1 3100) ∷ [])
 
 -- who leads in the end would show it
 abbrev pub LeaderWhoIsOvertakenMakesNoTwin : Type 0 → Type 0
@@ -41,7 +41,7 @@ LeaderWhoIsOvertakenMakesNoTwin F = Twin {F = F} settings 2 (run_under 3000) (ru
 -- Ana lists item 2 with a reserve of 9.00, Ben bids an amount on it, and Cid reads it
 abbrev pub run_reserved_for : {F : Type 0} → ℕ → List (Message F)
 run_reserved_for amount = setup_messages ++
-    (Order 1000 1 (lists_reserved 900) ∷ Order 1001 2 (Bid 2 amount) ∷ Read 3 (query.Item 2) ∷ [])
+    (Write 1000 1 (lists_reserved 900) ∷ Write 1001 2 (Bid 2 amount) ∷ Read 3 (query.Item 2) ∷ [])
 
 -- Ben's bid on it
 abbrev pub bens_bid : ℕ → Sealed

@@ -3,7 +3,7 @@ use Rattle.std.specs.Prelude.{◌≡◌, ◌≢◌, ℕ, List, [], ◌∷◌, Bo
 use Rattle.house_rows.specs.declared.command.Command.TheVariants.{Bid, Watch}
 use Rattle.house_rows.specs.declared.item.ItemShown.{ItemShown}
 use Rattle.house_rows.specs.declared.message.Message.{Message}
-use Rattle.house_rows.specs.declared.message.Message.TheVariants.{Order, Read}
+use Rattle.house_rows.specs.declared.message.Message.TheVariants.{Write, Read}
 use Rattle.house_rows.specs.declared.page.Page.TheVariants.{Items, OneItem}
 use Rattle.house_rows.specs.declared.query.Query.TheVariants as query
 use Rattle.house_rows.specs.declared.reply.Reply.{Reply}
@@ -64,8 +64,8 @@ atlas_at price leader count floor = record {
 -- item
 abbrev pub others_watch : {F : Type 0} → ℕ → Bool → List (Life (Message F))
 others_watch amount is_in = two_lives
-    (Order 1001 2 (Bid 1 1000) ∷ Order 1002 3 (Bid 1 amount) ∷ [])
-    (Order 1003 3 (Watch 1)) is_in (Read 2 (query.Item 1))
+    (Write 1001 2 (Bid 1 1000) ∷ Write 1002 3 (Bid 1 amount) ∷ [])
+    (Write 1003 3 (Watch 1)) is_in (Read 2 (query.Item 1))
 
 -- Ben can't know whether Cid bid 30.00 or 80.00, nor whether the crash kept Cid's watch
 abbrev pub SealedLivesAreTwins : Type 0 → Type 0
@@ -81,7 +81,7 @@ TwinLivesGetTheseReplies F = replies_to_ben {F = F} (others_watch 8000 false) �
 
 -- Ben's own watch is in flight, and in the second life Ben reads what it watches
 abbrev pub own_watch : {F : Type 0} → Bool → List (Life (Message F))
-own_watch is_in = two_lives [] (Order 1001 2 (Watch 1)) is_in (Read 2 query.MyWatches)
+own_watch is_in = two_lives [] (Write 1001 2 (Watch 1)) is_in (Read 2 query.MyWatches)
 
 -- nobody else can see whether the crash kept the watch. So lives in which it did and didn't look
 -- alike, and yet Ben gets other replies: that the choice on its own message is the same has to be
@@ -98,7 +98,7 @@ OwnChoiceMakesNoTwin F = AreTwinsForBen {F = F} (own_watch true) (own_watch fals
 
 -- Cid's bid is in flight: whether the crash kept it, the count of bids shows to everybody
 abbrev pub others_bid : {F : Type 0} → Bool → List (Life (Message F))
-others_bid is_in = two_lives [] (Order 1001 3 (Bid 1 1000)) is_in (Read 2 (query.Item 1))
+others_bid is_in = two_lives [] (Write 1001 3 (Bid 1 1000)) is_in (Read 2 (query.Item 1))
 
 abbrev pub KeptBidMakesNoTwin : Type 0 → Type 0
 KeptBidMakesNoTwin F = AreTwinsForBen {F = F} (others_bid true) (others_bid false) → ⊥

@@ -6,7 +6,7 @@ use Rattle.house_rows.specs.declared.state.State.TheVariants.{Open}
 use Rattle.house_rows.specs.declared.page.Page.TheVariants.{OneItem}
 use Rattle.house_rows.specs.declared.reply.Reply.TheVariants.{Done, Shows}
 use Rattle.house_rows.specs.declared.message.Message.{Message}
-use Rattle.house_rows.specs.declared.message.Message.TheVariants.{Order, Read}
+use Rattle.house_rows.specs.declared.message.Message.TheVariants.{Write, Read}
 use Rattle.house_rows.specs.Runs.{Twin, replies_to}
 use Rattle.house_rows.specs.declared.command_result.CommandResult.TheVariants.{Placed}
 use Rattle.house_laws.specs.Examples.{and_bid, lists, settings, setup}
@@ -15,16 +15,16 @@ use Rattle.house_laws.specs.WorkedRows.{Tells}
 -- the house registers Ana, Ben and Cid and adds Books, and Ana lists item 1 from 5.00 until 5000
 abbrev pub setup_messages : {F : Type 0} → List (Message F)
 setup_messages =
-    Order 1000 0 (Register (codes "Ana"))
-    ∷ Order 1000 0 (Register (codes "Ben"))
-    ∷ Order 1000 0 (Register (codes "Cid"))
-    ∷ Order 1000 0 (AddCategory (codes "Books"))
-    ∷ Order 1000 1 (lists (codes "A1") 500 None) ∷ []
+    Write 1000 0 (Register (codes "Ana"))
+    ∷ Write 1000 0 (Register (codes "Ben"))
+    ∷ Write 1000 0 (Register (codes "Cid"))
+    ∷ Write 1000 0 (AddCategory (codes "Books"))
+    ∷ Write 1000 1 (lists (codes "A1") 500 None) ∷ []
 
 -- Ben bids 10.00, Cid bids an amount, and Ben reads the item
 abbrev pub run_with : {F : Type 0} → ℕ → List (Message F)
 run_with amount = setup_messages ++
-    (Order 1001 2 (Bid 1 1000) ∷ Order 1002 3 (Bid 1 amount) ∷ Read 2 (query.Item 1) ∷ [])
+    (Write 1001 2 (Bid 1 1000) ∷ Write 1002 3 (Bid 1 amount) ∷ Read 2 (query.Item 1) ∷ [])
 
 -- Ben can't know whether Cid bid 30.00 or 80.00: the price is 10.50 in both runs
 abbrev pub SealedMaximaMakeTwins : Type 0 → Type 0

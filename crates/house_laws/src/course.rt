@@ -5,7 +5,7 @@ ghost use Rattle.settle.specs.declared.zone.Zone.{Zone};
 ghost use Rattle.house_rows.specs.declared.change.Change.{Change};
 ghost use Rattle.house_rows.specs.declared.command.Command.{Command};
 ghost use Rattle.house_rows.specs.declared.command.Command.TheVariants.{Bid};
-ghost use Rattle.house_rows.specs.declared.message.Message.TheVariants.{Order};
+ghost use Rattle.house_rows.specs.declared.message.Message.TheVariants.{Write};
 ghost use Rattle.house_rows.specs.declared.refusal.Refusal.{Refusal};
 ghost use Rattle.house_rows.specs.declared.settings.Settings.{Settings};
 ghost use Rattle.house_rows.specs.History.{History};
@@ -48,7 +48,7 @@ pub fn accepted_bids_count()
 /// A refused command leaves the history.
 pub fn refused_commands_change_nothing<F>()
     ensures { (settings : Settings) (h : History) (moment caller : ℕ) (command : Command) (refusal : Refusal)
-        → verdict settings h moment caller command ≡ Some refusal → next {F = F} settings h (Order moment caller command) ≡ h }
+        → verdict settings h moment caller command ≡ Some refusal → next {F = F} settings h (Write moment caller command) ≡ h }
 {}
 
 /// The tables of a history are sound: members, categories and items have the numbers from 1 on, every

@@ -24,3 +24,4 @@ pub mod Keeping
 pub mod Reached
 pub mod Taken
 pub mod Making
+pub mod Answers

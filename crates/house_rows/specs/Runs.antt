@@ -2,7 +2,7 @@
 use Rattle.std.specs.Prelude.{if◌then◌else◌, ◌≡◌, ◌⊎◌, ℕ, List, [], ◌∷◌, ◌++◌, Bool, false, ◌==◌, Option, Some, None}
 use Rattle.house_rows.specs.declared.command.Command.{Command}
 use Rattle.house_rows.specs.declared.message.Message.{Message}
-use Rattle.house_rows.specs.declared.message.Message.TheVariants.{Order, Read, Broken}
+use Rattle.house_rows.specs.declared.message.Message.TheVariants.{Write, Read, Broken}
 use Rattle.house_rows.specs.declared.refusal.Refusal.{Refusal}
 use Rattle.house_rows.specs.declared.reply.Reply.{Reply}
 use Rattle.house_rows.specs.declared.reply.Reply.TheVariants.{Done, Denied, Shows, Faulty}
@@ -26,7 +26,7 @@ entered (Some refusal) e h = h
 
 -- the next history
 unfoldable pub next : {F : Type 0} → Settings → History → Message F → History
-next settings h (Order moment caller command) = entered (verdict settings h moment caller command) (entry moment caller command) h
+next settings h (Write moment caller command) = entered (verdict settings h moment caller command) (entry moment caller command) h
 next settings h (Read caller query) = h
 next settings h (Broken caller fault) = h
 
@@ -46,7 +46,7 @@ reply_if (Some refusal) result_of = Denied refusal
 
 -- the reply to a message
 unfoldable pub reply : {F : Type 0} → Settings → History → Message F → Reply F
-reply settings h (Order moment caller command) =
+reply settings h (Write moment caller command) =
     reply_if (verdict settings h moment caller command) (result_of settings (entry moment caller command ∷ h) moment caller command h)
 reply settings h (Read caller query) = Shows (page_of settings h caller query)
 reply settings h (Broken caller fault) = Faulty fault
@@ -58,7 +58,7 @@ is_caller (Some caller) c = caller == c
 
 -- whose a message is
 abbrev pub is_of : {F : Type 0} → ℕ → Message F → Bool
-is_of c (Order moment caller command) = caller == c
+is_of c (Write moment caller command) = caller == c
 is_of c (Read caller query) = caller == c
 is_of c (Broken caller fault) = is_caller caller c
 

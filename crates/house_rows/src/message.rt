@@ -6,7 +6,7 @@ use crate::query::Query;
 #[derive(Drop)]
 pub enum Message<F> {
     /// The caller asks the house to do something.
-    Order {
+    Write {
         /// When, in whole seconds since 1970-01-01T00:00:00Z.
         moment: u64,
         /// The number of the caller, known or not.

@@ -1,7 +1,7 @@
 //! Whether two keeps have the same rows, list by list.
 ghost use Rattle.std.specs.Prelude.{◌≡◌, ◌↔◌, true, IfOk};
 ghost use Rattle.house_rows.specs.Found.{all_items, all_published, waiting_for};
-ghost use Rattle.house_rows.specs.Keeping.{IsRead};
+ghost use Rattle.house_views.specs.Compares.{Compares};
 ghost use Rattle.house_views.specs.Views.{HaveSamePeople, HaveSameRows, HaveSameTalk, PairFaults};
 
 use crate::same::are_same;
@@ -9,12 +9,8 @@ use house_rows::{Keep, KeepFault};
 
 // Whether the clocks are alike.
 fn have_same_clock<K: Keep>(left: &mut K, right: &mut K) -> Result<bool, KeepFault>
-    ensures report { K.is_honest left.new → K.is_honest right.new → IfOk result (λ same.
-        (same ≡ true) ↔ ((K.content left.old).clock ≡ (K.content right.old).clock)) }
-    ensures faults { PairFaults result (K.is_honest left.new × K.is_honest right.new)
-        (K.is_failed left.new) (K.is_failed right.new) (K.content left.old) (K.content right.old) }
-    ensures left { IsRead K.content K.is_failed K.is_honest K.may_leave left.old left.new }
-    ensures right { IsRead K.content K.is_failed K.is_honest K.may_leave right.old right.new }
+    ensures { Compares K.Keep left.old left.new right.old right.new result
+        (λ t u same. (same ≡ true) ↔ (t.clock ≡ u.clock)) }
 {
     let clock = left.clock()?;
     let other = right.clock()?;
@@ -23,12 +19,8 @@ fn have_same_clock<K: Keep>(left: &mut K, right: &mut K) -> Result<bool, KeepFau
 
 // Whether the members are the same.
 fn have_same_members<K: Keep>(left: &mut K, right: &mut K) -> Result<bool, KeepFault>
-    ensures report { K.is_honest left.new → K.is_honest right.new → IfOk result (λ same.
-        (same ≡ true) ↔ ((K.content left.old).members ≡ (K.content right.old).members)) }
-    ensures faults { PairFaults result (K.is_honest left.new × K.is_honest right.new)
-        (K.is_failed left.new) (K.is_failed right.new) (K.content left.old) (K.content right.old) }
-    ensures left { IsRead K.content K.is_failed K.is_honest K.may_leave left.old left.new }
-    ensures right { IsRead K.content K.is_failed K.is_honest K.may_leave right.old right.new }
+    ensures { Compares K.Keep left.old left.new right.old right.new result
+        (λ t u same. (same ≡ true) ↔ (t.members ≡ u.members)) }
 {
     let members = left.members()?;
     let others = right.members()?;
@@ -37,13 +29,8 @@ fn have_same_members<K: Keep>(left: &mut K, right: &mut K) -> Result<bool, KeepF
 
 // Whether the categories are the same.
 fn have_same_categories<K: Keep>(left: &mut K, right: &mut K) -> Result<bool, KeepFault>
-    ensures report { K.is_honest left.new → K.is_honest right.new → IfOk result (λ same.
-        (same ≡ true) ↔ ((K.content left.old).categories
-        ≡ (K.content right.old).categories)) }
-    ensures faults { PairFaults result (K.is_honest left.new × K.is_honest right.new)
-        (K.is_failed left.new) (K.is_failed right.new) (K.content left.old) (K.content right.old) }
-    ensures left { IsRead K.content K.is_failed K.is_honest K.may_leave left.old left.new }
-    ensures right { IsRead K.content K.is_failed K.is_honest K.may_leave right.old right.new }
+    ensures { Compares K.Keep left.old left.new right.old right.new result
+        (λ t u same. (same ≡ true) ↔ (t.categories ≡ u.categories)) }
 {
     let categories = left.categories()?;
     let others = right.categories()?;
@@ -64,12 +51,8 @@ fn have_same_editions<K: Keep>(left: &K, right: &K) -> Result<bool, KeepFault>
 
 // Whether the items are the same.
 fn have_same_items<K: Keep>(left: &mut K, right: &mut K) -> Result<bool, KeepFault>
-    ensures report { K.is_honest left.new → K.is_honest right.new → IfOk result (λ same.
-        (same ≡ true) ↔ (all_items (K.content left.old) ≡ all_items (K.content right.old))) }
-    ensures faults { PairFaults result (K.is_honest left.new × K.is_honest right.new)
-        (K.is_failed left.new) (K.is_failed right.new) (K.content left.old) (K.content right.old) }
-    ensures left { IsRead K.content K.is_failed K.is_honest K.may_leave left.old left.new }
-    ensures right { IsRead K.content K.is_failed K.is_honest K.may_leave right.old right.new }
+    ensures { Compares K.Keep left.old left.new right.old right.new result
+        (λ t u same. (same ≡ true) ↔ (all_items t ≡ all_items u)) }
 {
     let items = left.items()?;
     let others = right.items()?;
@@ -78,13 +61,8 @@ fn have_same_items<K: Keep>(left: &mut K, right: &mut K) -> Result<bool, KeepFau
 
 // Whether the published questions are the same.
 fn have_same_questions<K: Keep>(left: &mut K, right: &mut K) -> Result<bool, KeepFault>
-    ensures report { K.is_honest left.new → K.is_honest right.new → IfOk result (λ same.
-        (same ≡ true) ↔ (all_published (K.content left.old)
-        ≡ all_published (K.content right.old))) }
-    ensures faults { PairFaults result (K.is_honest left.new × K.is_honest right.new)
-        (K.is_failed left.new) (K.is_failed right.new) (K.content left.old) (K.content right.old) }
-    ensures left { IsRead K.content K.is_failed K.is_honest K.may_leave left.old left.new }
-    ensures right { IsRead K.content K.is_failed K.is_honest K.may_leave right.old right.new }
+    ensures { Compares K.Keep left.old left.new right.old right.new result
+        (λ t u same. (same ≡ true) ↔ (all_published t ≡ all_published u)) }
 {
     let questions = left.all_published()?;
     let others = right.all_published()?;
@@ -93,12 +71,8 @@ fn have_same_questions<K: Keep>(left: &mut K, right: &mut K) -> Result<bool, Kee
 
 // Whether the feedback is the same.
 fn have_same_feedback<K: Keep>(left: &mut K, right: &mut K) -> Result<bool, KeepFault>
-    ensures report { K.is_honest left.new → K.is_honest right.new → IfOk result (λ same.
-        (same ≡ true) ↔ ((K.content left.old).feedback ≡ (K.content right.old).feedback)) }
-    ensures faults { PairFaults result (K.is_honest left.new × K.is_honest right.new)
-        (K.is_failed left.new) (K.is_failed right.new) (K.content left.old) (K.content right.old) }
-    ensures left { IsRead K.content K.is_failed K.is_honest K.may_leave left.old left.new }
-    ensures right { IsRead K.content K.is_failed K.is_honest K.may_leave right.old right.new }
+    ensures { Compares K.Keep left.old left.new right.old right.new result
+        (λ t u same. (same ≡ true) ↔ (t.feedback ≡ u.feedback)) }
 {
     let feedback = left.all_feedback()?;
     let others = right.all_feedback()?;
@@ -111,13 +85,8 @@ pub(crate) fn have_same_open<K: Keep>(
     right: &mut K,
     member: u64,
 ) -> Result<bool, KeepFault>
-    ensures report { K.is_honest left.new → K.is_honest right.new → IfOk result (λ same.
-        (same ≡ true) ↔ (waiting_for (K.content left.old) member
-        ≡ waiting_for (K.content right.old) member)) }
-    ensures faults { PairFaults result (K.is_honest left.new × K.is_honest right.new)
-        (K.is_failed left.new) (K.is_failed right.new) (K.content left.old) (K.content right.old) }
-    ensures left { IsRead K.content K.is_failed K.is_honest K.may_leave left.old left.new }
-    ensures right { IsRead K.content K.is_failed K.is_honest K.may_leave right.old right.new }
+    ensures { Compares K.Keep left.old left.new right.old right.new result
+        (λ t u same. (same ≡ true) ↔ (waiting_for t member ≡ waiting_for u member)) }
 {
     let questions = left.waiting_for(member)?;
     let others = right.waiting_for(member)?;
@@ -126,12 +95,8 @@ pub(crate) fn have_same_open<K: Keep>(
 
 // Whether clock, members and categories are the same.
 fn have_same_people<K: Keep>(left: &mut K, right: &mut K) -> Result<bool, KeepFault>
-    ensures report { K.is_honest left.new → K.is_honest right.new → IfOk result (λ same.
-        (same ≡ true) ↔ HaveSamePeople (K.content left.old) (K.content right.old)) }
-    ensures faults { PairFaults result (K.is_honest left.new × K.is_honest right.new)
-        (K.is_failed left.new) (K.is_failed right.new) (K.content left.old) (K.content right.old) }
-    ensures left { IsRead K.content K.is_failed K.is_honest K.may_leave left.old left.new }
-    ensures right { IsRead K.content K.is_failed K.is_honest K.may_leave right.old right.new }
+    ensures { Compares K.Keep left.old left.new right.old right.new result
+        (λ t u same. (same ≡ true) ↔ HaveSamePeople t u) }
 {
     if !have_same_clock(left, right)? {
         return Ok(false);
@@ -145,12 +110,8 @@ fn have_same_people<K: Keep>(left: &mut K, right: &mut K) -> Result<bool, KeepFa
 
 // Whether what members say in public is the same.
 fn have_same_talk<K: Keep>(left: &mut K, right: &mut K) -> Result<bool, KeepFault>
-    ensures report { K.is_honest left.new → K.is_honest right.new → IfOk result (λ same.
-        (same ≡ true) ↔ HaveSameTalk (K.content left.old) (K.content right.old)) }
-    ensures faults { PairFaults result (K.is_honest left.new × K.is_honest right.new)
-        (K.is_failed left.new) (K.is_failed right.new) (K.content left.old) (K.content right.old) }
-    ensures left { IsRead K.content K.is_failed K.is_honest K.may_leave left.old left.new }
-    ensures right { IsRead K.content K.is_failed K.is_honest K.may_leave right.old right.new }
+    ensures { Compares K.Keep left.old left.new right.old right.new result
+        (λ t u same. (same ≡ true) ↔ HaveSameTalk t u) }
 {
     if !have_same_questions(left, right)? {
         return Ok(false);
@@ -161,12 +122,8 @@ fn have_same_talk<K: Keep>(left: &mut K, right: &mut K) -> Result<bool, KeepFaul
 
 // Whether everything public that may change is the same.
 pub(crate) fn have_same_rows<K: Keep>(left: &mut K, right: &mut K) -> Result<bool, KeepFault>
-    ensures report { K.is_honest left.new → K.is_honest right.new → IfOk result (λ same.
-        (same ≡ true) ↔ HaveSameRows (K.content left.old) (K.content right.old)) }
-    ensures faults { PairFaults result (K.is_honest left.new × K.is_honest right.new)
-        (K.is_failed left.new) (K.is_failed right.new) (K.content left.old) (K.content right.old) }
-    ensures left { IsRead K.content K.is_failed K.is_honest K.may_leave left.old left.new }
-    ensures right { IsRead K.content K.is_failed K.is_honest K.may_leave right.old right.new }
+    ensures { Compares K.Keep left.old left.new right.old right.new result
+        (λ t u same. (same ≡ true) ↔ HaveSameRows t u) }
 {
     if !have_same_people(left, right)? {
         return Ok(false);

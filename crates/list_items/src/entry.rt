@@ -5,7 +5,7 @@ ghost use Rattle.house_rows.specs.Text.{same_text};
 ghost use Rattle.list_items.specs.Closing.{close_at};
 ghost use Rattle.list_items.specs.Reserves.{reserve_with};
 
-use crate::closure::close_sells;
+use crate::close::close_sells;
 use cents::Cents;
 use house_rows::{Item, OwnReserve, State};
 use proxy::Standing;

@@ -19,7 +19,7 @@ ghost use Rattle.list_items.specs.Rising.{HasAll, IsRising, is_among};
 ghost use Rattle.list_items.specs.Sales.{is_sold_with, sale_of_row};
 ghost use Rattle.list_items.specs.Reserves.{reserve_with};
 
-use crate::closure::{close_sells, ended_by, is_due, next_due};
+use crate::close::{close_sells, ended_by, is_due, next_due};
 use crate::entry::ItemEntry;
 use crate::groups::{add, numbers_of, reserve};
 use crate::listing::new_entry;

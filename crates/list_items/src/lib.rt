@@ -9,7 +9,7 @@
 //! logarithm; `all` alone goes over every row. No clause says so.
 #![tactic(auto)]
 
-mod closure;
+mod close;
 mod entry;
 mod groups;
 mod items;

@@ -1,11 +1,8 @@
 //! Pages of items, each with the floor that is shown of it.
 ghost use Rattle.std.specs.Prelude.{◌≡◌, IfOk, map};
 ghost use Rattle.house_rows.specs.declared.query.Query.TheVariants as query;
-ghost use Rattle.house_rows.specs.Keeping.{Faults, IsRead};
-ghost use Rattle.house_rows.specs.Taken.{IsUndamaged};
 ghost use Rattle.pages_laws.specs.ByTables.{shown_among, shown_by};
-ghost use Rattle.pages_text.specs.Fits.{PageFits};
-ghost use Rattle.pages.specs.Taken.{PageRowsFit};
+ghost use Rattle.pages.specs.Promises.{MakesPage};
 
 use house_rows::{Editions, Item, ItemShown, Keep, KeepFault, Page, Refusal, Rows};
 use pages_text::floor;
@@ -48,13 +45,7 @@ pub(crate) fn items_in<K: Keep>(
     category: u64,
     from: u64,
 ) -> Result<Page, KeepFault>
-    ensures page { K.is_honest keep.new → IfOk result (λ page.
-        page ≡ shown_by (K.content keep.old) 0 (query.ItemsIn category from)) }
-    ensures fits { IfOk result PageFits }
-    ensures faults { Faults result (K.is_honest keep.new) (K.is_failed keep.new) (K.content keep.old) }
-    ensures damaged { K.is_honest keep.new
-        → PageRowsFit (K.content keep.old) 0 (query.ItemsIn category from) → IsUndamaged result }
-    ensures read { IsRead K.content K.is_failed K.is_honest K.may_leave keep.old keep.new }
+    ensures { MakesPage K.Keep keep.old keep.new result shown_by 0 (query.ItemsIn category from) }
 {
     if !keep.has_category(category)? {
         return Ok(Page::Refused(Refusal::Unknown));
@@ -67,13 +58,7 @@ pub(crate) fn items_in<K: Keep>(
 // One item.
 #[tactic(auto, unfolding(pages_laws::specs::ByTables::shown_by))]
 pub(crate) fn item<K: Keep>(keep: &mut K, item: u64) -> Result<Page, KeepFault>
-    ensures page { K.is_honest keep.new → IfOk result (λ page.
-        page ≡ shown_by (K.content keep.old) 0 (query.Item item)) }
-    ensures fits { IfOk result PageFits }
-    ensures faults { Faults result (K.is_honest keep.new) (K.is_failed keep.new) (K.content keep.old) }
-    ensures damaged { K.is_honest keep.new
-        → PageRowsFit (K.content keep.old) 0 (query.Item item) → IsUndamaged result }
-    ensures read { IsRead K.content K.is_failed K.is_honest K.may_leave keep.old keep.new }
+    ensures { MakesPage K.Keep keep.old keep.new result shown_by 0 (query.Item item) }
 {
     let Some(found) = keep.item(item)? else {
         return Ok(Page::Refused(Refusal::Unknown));
@@ -84,13 +69,7 @@ pub(crate) fn item<K: Keep>(keep: &mut K, item: u64) -> Result<Page, KeepFault>
 // The items that the caller watches.
 #[tactic(auto, unfolding(pages_laws::specs::ByTables::shown_by))]
 pub(crate) fn watches<K: Keep>(alloc: Global, keep: &mut K, caller: u64) -> Result<Page, KeepFault>
-    ensures page { K.is_honest keep.new → IfOk result (λ page.
-        page ≡ shown_by (K.content keep.old) caller query.MyWatches) }
-    ensures fits { IfOk result PageFits }
-    ensures faults { Faults result (K.is_honest keep.new) (K.is_failed keep.new) (K.content keep.old) }
-    ensures damaged { K.is_honest keep.new
-        → PageRowsFit (K.content keep.old) caller query.MyWatches → IsUndamaged result }
-    ensures read { IsRead K.content K.is_failed K.is_honest K.may_leave keep.old keep.new }
+    ensures { MakesPage K.Keep keep.old keep.new result shown_by caller query.MyWatches }
 {
     let items = keep.watches_of(caller)?;
     let items = with_floors(alloc, keep.editions()?, items)?;

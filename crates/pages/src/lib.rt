@@ -2,7 +2,7 @@
 //!
 //! Promised: for every history whose tables the keep has, `read` gives the page that `page_of`
 //! defines, `show` appends its text, whole or not at all, and `page` makes its tree; the tables
-//! stay. Read `page_text` first, and then `reading`; what makes trees is apart in `trees`.
+//! stay. Read `specs/Promises.antt` first, and then `reading`; `trees` is for tests alone.
 #![tactic(auto)]
 
 mod bidding;

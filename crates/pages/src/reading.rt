@@ -1,14 +1,7 @@
 //! The page of a read, by the tables of a keep.
-ghost use Rattle.std.specs.Prelude.{◌≡◌, ◌<◌, ◌^◌, IfOk, IsTrue, false, length};
-ghost use Rattle.house_rows.specs.declared.settings.Settings.{Settings as TheSettings};
-ghost use Rattle.house_rows.specs.History.{History};
-ghost use Rattle.house_rows.specs.Keeping.{Faults, IsRead};
-ghost use Rattle.house_rows.specs.Pages.{page_of};
-ghost use Rattle.house_rows.specs.Tables.{tables_of};
-ghost use Rattle.house_rows.specs.Taken.{IsUndamaged};
+ghost use Rattle.std.specs.Prelude.{◌≡◌, ◌<◌, ◌^◌, IsTrue};
 ghost use Rattle.pages_laws.specs.ByTables.{is_own, may_read, page_by, shown_by};
-ghost use Rattle.pages_text.specs.Fits.{PageFits};
-ghost use Rattle.pages.specs.Taken.{PageRowsFit};
+ghost use Rattle.pages.specs.Promises.{MakesPage, ReadsPage};
 
 use crate::bidding::{bids, reserves, statement};
 use crate::items::{item, items_in, watches};
@@ -26,36 +19,20 @@ pub fn read<K: Keep>(
     caller: u64,
     query: &Query,
 ) -> Result<Page, KeepFault>
-    // Over any tables, of a history or not.
-    ensures tables { K.is_honest keep.new → IfOk result (λ page.
-        page ≡ page_by (K.content keep.old) caller query.now) }
-    ensures page { K.is_honest keep.new → (settings : TheSettings) (h : History)
-        → K.content keep.old ≡ tables_of settings h
-        → IfOk result (λ page. page ≡ page_of settings h caller query.now) }
-    ensures fits { IfOk result PageFits }
-    ensures faults { Faults result (K.is_honest keep.new) (K.is_failed keep.new) (K.content keep.old) }
-    ensures damaged { K.is_honest keep.new
-        → PageRowsFit (K.content keep.old) caller query.now → IsUndamaged result }
-    ensures read { IsRead K.content K.is_failed K.is_honest K.may_leave keep.old keep.new }
+    ensures { ReadsPage K.Keep keep.old keep.new result caller query.now }
 {
     read_tables(alloc, keep, caller, query)
 }
 
 // The same by the tables.
 #[tactic(auto, unfolding(pages_laws::specs::ByTables::page_by))]
-pub(crate) fn read_tables<K: Keep>(
+fn read_tables<K: Keep>(
     alloc: Global,
     keep: &mut K,
     caller: u64,
     query: &Query,
 ) -> Result<Page, KeepFault>
-    ensures page { K.is_honest keep.new → IfOk result (λ page.
-        page ≡ page_by (K.content keep.old) caller query.now) }
-    ensures fits { IfOk result PageFits }
-    ensures faults { Faults result (K.is_honest keep.new) (K.is_failed keep.new) (K.content keep.old) }
-    ensures damaged { K.is_honest keep.new
-        → PageRowsFit (K.content keep.old) caller query.now → IsUndamaged result }
-    ensures read { IsRead K.content K.is_failed K.is_honest K.may_leave keep.old keep.new }
+    ensures { MakesPage K.Keep keep.old keep.new result page_by caller query.now }
 {
     let members = keep.counts()?.members;
     if !may_read(members, caller, is_own(query)) {
@@ -73,13 +50,7 @@ fn page_allowed<K: Keep>(
     query: &Query,
 ) -> Result<Page, KeepFault>
     requires { caller < 2 ^ 32 }
-    ensures page { K.is_honest keep.new → IfOk result (λ page.
-        page ≡ shown_by (K.content keep.old) caller query.now) }
-    ensures fits { IfOk result PageFits }
-    ensures faults { Faults result (K.is_honest keep.new) (K.is_failed keep.new) (K.content keep.old) }
-    ensures damaged { K.is_honest keep.new
-        → PageRowsFit (K.content keep.old) caller query.now → IsUndamaged result }
-    ensures read { IsRead K.content K.is_failed K.is_honest K.may_leave keep.old keep.new }
+    ensures { MakesPage K.Keep keep.old keep.new result shown_by caller query.now }
 {
     match *query {
         Query::House => house(alloc, keep),

@@ -1,10 +1,8 @@
 //! Pages of what the house is set up with, and of its counts.
 ghost use Rattle.std.specs.Prelude.{◌≡◌, IfOk};
 ghost use Rattle.house_rows.specs.declared.query.Query.TheVariants as query;
-ghost use Rattle.house_rows.specs.Keeping.{Faults, IsRead};
-ghost use Rattle.house_rows.specs.Taken.{IsUndamaged};
 ghost use Rattle.pages_laws.specs.ByTables.{shown_by};
-ghost use Rattle.pages_text.specs.Fits.{PageFits};
+ghost use Rattle.pages.specs.Promises.{MakesPage};
 
 use house_rows::{Counts, Keep, KeepFault, Page, Refusal, Rows, Settings, Text};
 use std::alloc::{AllocError, Global};
@@ -40,12 +38,7 @@ fn bands_page(alloc: Global, bands: &Bands) -> Result<Page, AllocError>
 // The house.
 #[tactic(auto, unfolding(pages_laws::specs::ByTables::shown_by))]
 pub(crate) fn house<K: Keep>(alloc: Global, keep: &mut K) -> Result<Page, KeepFault>
-    ensures page { K.is_honest keep.new → IfOk result (λ page.
-        page ≡ shown_by (K.content keep.old) 0 query.House) }
-    ensures fits { IfOk result PageFits }
-    ensures faults { Faults result (K.is_honest keep.new) (K.is_failed keep.new) (K.content keep.old) }
-    ensures damaged { K.is_honest keep.new → IsUndamaged result }
-    ensures read { IsRead K.content K.is_failed K.is_honest K.may_leave keep.old keep.new }
+    ensures { MakesPage K.Keep keep.old keep.new result shown_by 0 query.House }
 {
     let counts = keep.counts()?;
     let clock = keep.clock()?;
@@ -55,12 +48,7 @@ pub(crate) fn house<K: Keep>(alloc: Global, keep: &mut K) -> Result<Page, KeepFa
 // The newest band table.
 #[tactic(auto, unfolding(pages_laws::specs::ByTables::shown_by))]
 pub(crate) fn bands<K: Keep>(alloc: Global, keep: &mut K) -> Result<Page, KeepFault>
-    ensures page { K.is_honest keep.new → IfOk result (λ page.
-        page ≡ shown_by (K.content keep.old) 0 query.Bands) }
-    ensures fits { IfOk result PageFits }
-    ensures faults { Faults result (K.is_honest keep.new) (K.is_failed keep.new) (K.content keep.old) }
-    ensures damaged { K.is_honest keep.new → IsUndamaged result }
-    ensures read { IsRead K.content K.is_failed K.is_honest K.may_leave keep.old keep.new }
+    ensures { MakesPage K.Keep keep.old keep.new result shown_by 0 query.Bands }
 {
     Ok(bands_page(alloc, keep.editions()?.newest_bands())?)
 }
@@ -72,12 +60,7 @@ pub(crate) fn bands_of<K: Keep>(
     keep: &mut K,
     edition: u64,
 ) -> Result<Page, KeepFault>
-    ensures page { K.is_honest keep.new → IfOk result (λ page.
-        page ≡ shown_by (K.content keep.old) 0 (query.BandsOf edition)) }
-    ensures fits { IfOk result PageFits }
-    ensures faults { Faults result (K.is_honest keep.new) (K.is_failed keep.new) (K.content keep.old) }
-    ensures damaged { K.is_honest keep.new → IsUndamaged result }
-    ensures read { IsRead K.content K.is_failed K.is_honest K.may_leave keep.old keep.new }
+    ensures { MakesPage K.Keep keep.old keep.new result shown_by 0 (query.BandsOf edition) }
 {
     match keep.bands_of(edition)? {
         None => Ok(Page::Refused(Refusal::Unknown)),

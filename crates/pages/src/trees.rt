@@ -1,17 +1,10 @@
 //! The page of a read, as a tree. The program writes text: only tests make trees.
-ghost use Rattle.std.specs.Prelude.{◌≡◌, IfOk};
-ghost use Rattle.house_rows.specs.declared.settings.Settings.{Settings as TheSettings};
-ghost use Rattle.house_rows.specs.History.{History};
-ghost use Rattle.house_rows.specs.Keeping.{IsRead};
-ghost use Rattle.house_rows.specs.Pages.{page_of};
-ghost use Rattle.house_rows.specs.Tables.{tables_of};
-ghost use Rattle.pages_laws.specs.ByTables.{page_by};
-ghost use Rattle.pages_text.specs.Faults.{PageFaults};
+ghost use Rattle.std.specs.Prelude.{IfOk};
 ghost use Rattle.pages_text.specs.Fits.{PageFits};
+ghost use Rattle.pages.specs.Promises.{GrowsPage};
 ghost use Rattle.pages.specs.Showing.{IsGrown};
-ghost use Rattle.pages.specs.Taken.{IsTreeUndamaged, PageRowsFit};
 
-use crate::reading::read_tables;
+use crate::reading::read;
 use house_rows::{Keep, Page, Query, Refusal};
 use pages_text::{PageFault, grow_page};
 use serde_json::Value;
@@ -27,39 +20,9 @@ pub fn page<K: Keep>(
     caller: u64,
     query: &Query,
 ) -> Result<Result<Value, Refusal>, PageFault>
-    // Over any tables, of a history or not.
-    ensures tables { K.is_honest keep.new → IfOk result (λ report.
-        IsGrown zone.now
-        (page_by (K.content keep.old) caller query.now) report) }
-    ensures shown { K.is_honest keep.new → (settings : TheSettings) (h : History)
-        → K.content keep.old ≡ tables_of settings h
-        → IfOk result (λ report. IsGrown zone.now
-        (page_of settings h caller query.now) report) }
-    ensures faults { PageFaults result (K.is_honest keep.new) (K.is_failed keep.new) (K.content keep.old) }
-    ensures damaged { K.is_honest keep.new
-        → PageRowsFit (K.content keep.old) caller query.now → IsTreeUndamaged result }
-    ensures read { IsRead K.content K.is_failed K.is_honest K.may_leave keep.old keep.new }
+    ensures { GrowsPage K.Keep keep.old keep.new result zone.now caller query.now }
 {
-    page_tables(alloc, keep, zone, caller, query)
-}
-
-// The same by the tables.
-fn page_tables<K: Keep>(
-    alloc: Global,
-    keep: &mut K,
-    zone: &Zone,
-    caller: u64,
-    query: &Query,
-) -> Result<Result<Value, Refusal>, PageFault>
-    ensures shown { K.is_honest keep.new → IfOk result (λ report.
-        IsGrown zone.now
-        (page_by (K.content keep.old) caller query.now) report) }
-    ensures faults { PageFaults result (K.is_honest keep.new) (K.is_failed keep.new) (K.content keep.old) }
-    ensures damaged { K.is_honest keep.new
-        → PageRowsFit (K.content keep.old) caller query.now → IsTreeUndamaged result }
-    ensures read { IsRead K.content K.is_failed K.is_honest K.may_leave keep.old keep.new }
-{
-    let page = read_tables(alloc, keep, caller, query)?;
+    let page = read(alloc, keep, caller, query)?;
     Ok(page_tree(alloc, zone, &page)?)
 }
 

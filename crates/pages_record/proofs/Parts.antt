@@ -1,9 +1,14 @@
 -- Members of an object, one after the other, as text and in a map.
-use Rattle.std.proofs.Common.{◌≡◌, ℕ, List, ◌++◌, ◌∙◌, take, drop, length, ap, refl}
+use Rattle.std.proofs.Common.{◌≡◌, ℕ, List, [], ◌++◌, ◌∙◌, take, drop, length, ap, refl, sym, BTreeMap, Global, Ok, String}
+use Rattle.house_rows.specs.declared.keep.Keep.{Ghosts}
 use Rattle.house_rows.specs.Tables.{Tables}
-use Rattle.serde_json.specs.Data.{Members, no_members, object}
-use Rattle.pages_json.specs.Words.{AreInOrder, enclosed, members_text, put_all, text_of}
+use Rattle.serde_json.specs.Data.{object}
+use Rattle.serde_json.specs.View.{members_view, view}
+use Rattle.serde_json.specs.declared.value.Value.{Value, Object}
+use Rattle.serde_json.proofs.Views.{view-Object}
+use Rattle.pages_json.specs.Words.{AreInOrder, enclosed, put_all, text_of}
 use Rattle.pages_json.proofs.Texts.{object_enclosed}
+use Rattle.pages_record.specs.Promises.{PutsPart, PutsText}
 use Rattle.pages_record.specs.Record.{back_by, front_by, middle_by, record_by}
 
 -- the keys of the record are in byte order
@@ -12,15 +17,24 @@ unfolding front_by middle_by back_by
 in_order t = refl
 
 -- the record, of all its members
-pub record_grown : (t : Tables) (none last : Members) → none ≡ no_members
-    → last ≡ put_all (front_by t ++ (middle_by t ++ back_by t)) none → object last ≡ record_by t
+pub record_grown : (t : Tables) (none : List (String Global × Value)) (last : BTreeMap (String Global) Value) → none ≡ []
+    → members_view last.entries ≡ put_all (front_by t ++ (middle_by t ++ back_by t)) (members_view none) → view (Object last) ≡ record_by t
 unfolding record_by
 record_grown t none last e0 e1 =
-    ap object (e1 ∙ ap (put_all (front_by t ++ (middle_by t ++ back_by t))) e0 ∙ in_order t)
+    view-Object last
+    ∙ ap object (e1 ∙ ap (λ found. put_all (front_by t ++ (middle_by t ++ back_by t)) (members_view found)) e0 ∙ in_order t)
 
 -- and its text, once they are written
-pub record_put : (t : Tables) (old now : List ℕ) (start : ℕ) → start ≡ length old
-    → now ≡ old ++ members_text (front_by t ++ (middle_by t ++ back_by t))
-    → take start now ++ enclosed 123 125 (drop start now) ≡ old ++ text_of (record_by t)
+pub record_put : {K : Type 0} (keep : Ghosts K) {old new : K} {u : Unit {0}} {before now after : List ℕ} (start : ℕ) → start ≡ length before
+    → PutsPart keep old new (Ok u) (λ t. front_by t ++ (middle_by t ++ back_by t)) before now
+    → after ≡ take start now ++ enclosed 123 125 (drop start now) → take start after ≡ take start now
+    → PutsText keep old new (Ok u) (λ t. text_of (record_by t)) before after
 unfolding record_by
-record_put t old now start at is = object_enclosed (front_by t ++ (middle_by t ++ back_by t)) old now start at is
+record_put keep {old = old} {before = before} {now = now} {after = after} start at part text front =
+    let t = keep.content old in
+    record {
+      text = λ honest. text ∙ object_enclosed (front_by t ++ (middle_by t ++ back_by t)) before now start at (part.text honest);
+      front = ap (λ n. take n after) (sym at) ∙ front ∙ ap (λ n. take n now) at ∙ part.front;
+      faults = part.faults;
+      read = part.read;
+    }

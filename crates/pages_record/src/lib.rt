@@ -3,7 +3,7 @@
 //! Promised: for every history whose tables a keep has, what is appended is the text of the public
 //! view's tree, whole or not at all, and what is made is that tree; the tables stay. Rows are asked
 //! for list by list, and no more than one list is held beside the text or the tree. Read
-//! `specs/Record.antt` first, and then `record_text`; what makes the tree is apart in `trees`.
+//! `specs/Record.antt` first, then `specs/Promises.antt`; what makes the tree is apart in `trees`.
 #![tactic(auto)]
 
 mod editions;

@@ -1,13 +1,10 @@
 //! The public record, written list by list: no more than one list is held beside the text.
-ghost use Rattle.std.specs.Prelude.{◌≡◌, ◌++◌, ◌∷◌, [], codes, OnErr, OnOk};
+ghost use Rattle.std.specs.Prelude.{◌≡◌, ◌++◌, ◌∷◌, [], codes, OnOk};
 ghost use Rattle.std.specs.Io.{StartsWith};
-ghost use Rattle.house_rows.specs.declared.settings.Settings.{Settings as TheSettings};
-ghost use Rattle.house_rows.specs.History.{History};
-ghost use Rattle.house_rows.specs.Tables.{tables_of};
-ghost use Rattle.house_rows.specs.Keeping.{Faults, IsRead};
 ghost use Rattle.serde_json.specs.Data.{string};
 ghost use Rattle.pages_json.specs.Words.{members_text, text_of, whole};
-ghost use Rattle.pages_record.specs.Record.{back_by, bands_by, categories_by, clock_by, editions_by, feedback_by, front_by, items_by, members_by, middle_by, questions_by, record_by, record_text, settings_by};
+ghost use Rattle.pages_record.specs.Promises.{PutsPart, PutsText, ShowsRecord};
+ghost use Rattle.pages_record.specs.Record.{back_by, bands_by, categories_by, clock_by, editions_by, feedback_by, front_by, items_by, members_by, middle_by, questions_by, record_by, settings_by};
 
 use crate::editions::{AsEditions, numbers_to};
 use house_rows::{Keep, KeepFault, Settings};
@@ -16,12 +13,7 @@ use pages_text::{AsBands, AsCategories, AsFeedback, AsMembers, AsQuestions, ByEd
 use std::alloc::{AllocError, Global};
 
 fn put_bands<K: Keep>(alloc: Global, keep: &mut K, out: &mut Vec<u8>) -> Result<(), KeepFault>
-    ensures text { K.is_honest keep.new → OnOk result
-        (out.new.items ≡ out.old.items ++ members_text (bands_by (K.content keep.old))) }
-    ensures front { StartsWith out.new.items out.old.items }
-    ensures faults { Faults result (K.is_honest keep.new) (K.is_failed keep.new)
-        (K.content keep.old) }
-    ensures read { IsRead K.content K.is_failed K.is_honest K.may_leave keep.old keep.new }
+    ensures { PutsPart K.Keep keep.old keep.new result bands_by out.old.items out.new.items }
 {
     put_member_list(
         alloc,
@@ -34,12 +26,7 @@ fn put_bands<K: Keep>(alloc: Global, keep: &mut K, out: &mut Vec<u8>) -> Result<
 }
 
 fn put_categories<K: Keep>(alloc: Global, keep: &mut K, out: &mut Vec<u8>) -> Result<(), KeepFault>
-    ensures text { K.is_honest keep.new → OnOk result
-        (out.new.items ≡ out.old.items ++ members_text (categories_by (K.content keep.old))) }
-    ensures front { StartsWith out.new.items out.old.items }
-    ensures faults { Faults result (K.is_honest keep.new) (K.is_failed keep.new)
-        (K.content keep.old) }
-    ensures read { IsRead K.content K.is_failed K.is_honest K.may_leave keep.old keep.new }
+    ensures { PutsPart K.Keep keep.old keep.new result categories_by out.old.items out.new.items }
 {
     let categories = keep.categories()?;
     put_member_list(alloc, out, key!("categories"), &AsCategories, &categories)?;
@@ -47,12 +34,7 @@ fn put_categories<K: Keep>(alloc: Global, keep: &mut K, out: &mut Vec<u8>) -> Re
 }
 
 fn put_clock<K: Keep>(alloc: Global, keep: &mut K, out: &mut Vec<u8>) -> Result<(), KeepFault>
-    ensures text { K.is_honest keep.new → OnOk result
-        (out.new.items ≡ out.old.items ++ members_text (clock_by (K.content keep.old))) }
-    ensures front { StartsWith out.new.items out.old.items }
-    ensures faults { Faults result (K.is_honest keep.new) (K.is_failed keep.new)
-        (K.content keep.old) }
-    ensures read { IsRead K.content K.is_failed K.is_honest K.may_leave keep.old keep.new }
+    ensures { PutsPart K.Keep keep.old keep.new result clock_by out.old.items out.new.items }
 {
     let clock = keep.clock()?;
     put_members(alloc, out, &[(key!("clock"), Field::Number(clock))])?;
@@ -61,12 +43,7 @@ fn put_clock<K: Keep>(alloc: Global, keep: &mut K, out: &mut Vec<u8>) -> Result<
 
 #[tactic(auto, using(pages_json::proofs::Texts::three_members, pages_json::proofs::Texts::front_then), unfolding(crate::specs::Record::front_by))]
 fn put_front<K: Keep>(alloc: Global, keep: &mut K, out: &mut Vec<u8>) -> Result<(), KeepFault>
-    ensures text { K.is_honest keep.new → OnOk result
-        (out.new.items ≡ out.old.items ++ members_text (front_by (K.content keep.old))) }
-    ensures front { StartsWith out.new.items out.old.items }
-    ensures faults { Faults result (K.is_honest keep.new) (K.is_failed keep.new)
-        (K.content keep.old) }
-    ensures read { IsRead K.content K.is_failed K.is_honest K.may_leave keep.old keep.new }
+    ensures { PutsPart K.Keep keep.old keep.new result front_by out.old.items out.new.items }
 {
     put_bands(alloc, keep, out)?;
     put_categories(alloc, keep, out)?;
@@ -75,12 +52,7 @@ fn put_front<K: Keep>(alloc: Global, keep: &mut K, out: &mut Vec<u8>) -> Result<
 }
 
 fn put_editions<K: Keep>(alloc: Global, keep: &mut K, out: &mut Vec<u8>) -> Result<(), KeepFault>
-    ensures text { K.is_honest keep.new → OnOk result
-        (out.new.items ≡ out.old.items ++ members_text (editions_by (K.content keep.old))) }
-    ensures front { StartsWith out.new.items out.old.items }
-    ensures faults { Faults result (K.is_honest keep.new) (K.is_failed keep.new)
-        (K.content keep.old) }
-    ensures read { IsRead K.content K.is_failed K.is_honest K.may_leave keep.old keep.new }
+    ensures { PutsPart K.Keep keep.old keep.new result editions_by out.old.items out.new.items }
 {
     let form = AsEditions {
         editions: keep.editions()?,
@@ -91,12 +63,7 @@ fn put_editions<K: Keep>(alloc: Global, keep: &mut K, out: &mut Vec<u8>) -> Resu
 }
 
 fn put_feedback<K: Keep>(alloc: Global, keep: &mut K, out: &mut Vec<u8>) -> Result<(), KeepFault>
-    ensures text { K.is_honest keep.new → OnOk result
-        (out.new.items ≡ out.old.items ++ members_text (feedback_by (K.content keep.old))) }
-    ensures front { StartsWith out.new.items out.old.items }
-    ensures faults { Faults result (K.is_honest keep.new) (K.is_failed keep.new)
-        (K.content keep.old) }
-    ensures read { IsRead K.content K.is_failed K.is_honest K.may_leave keep.old keep.new }
+    ensures { PutsPart K.Keep keep.old keep.new result feedback_by out.old.items out.new.items }
 {
     let feedback = keep.all_feedback()?;
     put_member_list(alloc, out, key!("feedback"), &AsFeedback, &feedback)?;
@@ -104,12 +71,7 @@ fn put_feedback<K: Keep>(alloc: Global, keep: &mut K, out: &mut Vec<u8>) -> Resu
 }
 
 fn put_items<K: Keep>(alloc: Global, keep: &mut K, out: &mut Vec<u8>) -> Result<(), KeepFault>
-    ensures text { K.is_honest keep.new → OnOk result
-        (out.new.items ≡ out.old.items ++ members_text (items_by (K.content keep.old))) }
-    ensures front { StartsWith out.new.items out.old.items }
-    ensures faults { Faults result (K.is_honest keep.new) (K.is_failed keep.new)
-        (K.content keep.old) }
-    ensures read { IsRead K.content K.is_failed K.is_honest K.may_leave keep.old keep.new }
+    ensures { PutsPart K.Keep keep.old keep.new result items_by out.old.items out.new.items }
 {
     let items = keep.items()?;
     let form = ByEditions {
@@ -120,12 +82,7 @@ fn put_items<K: Keep>(alloc: Global, keep: &mut K, out: &mut Vec<u8>) -> Result<
 }
 
 fn put_all_members<K: Keep>(alloc: Global, keep: &mut K, out: &mut Vec<u8>) -> Result<(), KeepFault>
-    ensures text { K.is_honest keep.new → OnOk result
-        (out.new.items ≡ out.old.items ++ members_text (members_by (K.content keep.old))) }
-    ensures front { StartsWith out.new.items out.old.items }
-    ensures faults { Faults result (K.is_honest keep.new) (K.is_failed keep.new)
-        (K.content keep.old) }
-    ensures read { IsRead K.content K.is_failed K.is_honest K.may_leave keep.old keep.new }
+    ensures { PutsPart K.Keep keep.old keep.new result members_by out.old.items out.new.items }
 {
     let members = keep.members()?;
     put_member_list(alloc, out, key!("members"), &AsMembers, &members)?;
@@ -133,12 +90,7 @@ fn put_all_members<K: Keep>(alloc: Global, keep: &mut K, out: &mut Vec<u8>) -> R
 }
 
 fn put_questions<K: Keep>(alloc: Global, keep: &mut K, out: &mut Vec<u8>) -> Result<(), KeepFault>
-    ensures text { K.is_honest keep.new → OnOk result
-        (out.new.items ≡ out.old.items ++ members_text (questions_by (K.content keep.old))) }
-    ensures front { StartsWith out.new.items out.old.items }
-    ensures faults { Faults result (K.is_honest keep.new) (K.is_failed keep.new)
-        (K.content keep.old) }
-    ensures read { IsRead K.content K.is_failed K.is_honest K.may_leave keep.old keep.new }
+    ensures { PutsPart K.Keep keep.old keep.new result questions_by out.old.items out.new.items }
 {
     let questions = keep.all_published()?;
     put_member_list(alloc, out, key!("questions"), &AsQuestions, &questions)?;
@@ -162,12 +114,7 @@ fn put_settings_of(alloc: Global, out: &mut Vec<u8>, settings: &Settings) -> Res
 }
 
 fn put_settings<K: Keep>(alloc: Global, keep: &mut K, out: &mut Vec<u8>) -> Result<(), KeepFault>
-    ensures text { K.is_honest keep.new → OnOk result
-        (out.new.items ≡ out.old.items ++ members_text (settings_by (K.content keep.old))) }
-    ensures front { StartsWith out.new.items out.old.items }
-    ensures faults { Faults result (K.is_honest keep.new) (K.is_failed keep.new)
-        (K.content keep.old) }
-    ensures read { IsRead K.content K.is_failed K.is_honest K.may_leave keep.old keep.new }
+    ensures { PutsPart K.Keep keep.old keep.new result settings_by out.old.items out.new.items }
 {
     put_settings_of(alloc, out, keep.settings()?)?;
     Ok(())
@@ -175,12 +122,7 @@ fn put_settings<K: Keep>(alloc: Global, keep: &mut K, out: &mut Vec<u8>) -> Resu
 
 #[tactic(auto, using(pages_json::proofs::Texts::three_members, pages_json::proofs::Texts::front_then), unfolding(crate::specs::Record::middle_by))]
 fn put_middle<K: Keep>(alloc: Global, keep: &mut K, out: &mut Vec<u8>) -> Result<(), KeepFault>
-    ensures text { K.is_honest keep.new → OnOk result
-        (out.new.items ≡ out.old.items ++ members_text (middle_by (K.content keep.old))) }
-    ensures front { StartsWith out.new.items out.old.items }
-    ensures faults { Faults result (K.is_honest keep.new) (K.is_failed keep.new)
-        (K.content keep.old) }
-    ensures read { IsRead K.content K.is_failed K.is_honest K.may_leave keep.old keep.new }
+    ensures { PutsPart K.Keep keep.old keep.new result middle_by out.old.items out.new.items }
 {
     put_editions(alloc, keep, out)?;
     put_feedback(alloc, keep, out)?;
@@ -190,12 +132,7 @@ fn put_middle<K: Keep>(alloc: Global, keep: &mut K, out: &mut Vec<u8>) -> Result
 
 #[tactic(auto, using(pages_json::proofs::Texts::three_members, pages_json::proofs::Texts::front_then), unfolding(crate::specs::Record::back_by))]
 fn put_back<K: Keep>(alloc: Global, keep: &mut K, out: &mut Vec<u8>) -> Result<(), KeepFault>
-    ensures text { K.is_honest keep.new → OnOk result
-        (out.new.items ≡ out.old.items ++ members_text (back_by (K.content keep.old))) }
-    ensures front { StartsWith out.new.items out.old.items }
-    ensures faults { Faults result (K.is_honest keep.new) (K.is_failed keep.new)
-        (K.content keep.old) }
-    ensures read { IsRead K.content K.is_failed K.is_honest K.may_leave keep.old keep.new }
+    ensures { PutsPart K.Keep keep.old keep.new result back_by out.old.items out.new.items }
 {
     put_all_members(alloc, keep, out)?;
     put_questions(alloc, keep, out)?;
@@ -206,13 +143,8 @@ fn put_back<K: Keep>(alloc: Global, keep: &mut K, out: &mut Vec<u8>) -> Result<(
 // All members of the record.
 #[tactic(auto, using(pages_json::proofs::Texts::three_members, pages_json::proofs::Texts::front_then))]
 fn put_all<K: Keep>(alloc: Global, keep: &mut K, out: &mut Vec<u8>) -> Result<(), KeepFault>
-    ensures text { K.is_honest keep.new → OnOk result (out.new.items ≡ out.old.items
-        ++ members_text (front_by (K.content keep.old) ++ (middle_by (K.content keep.old)
-        ++ back_by (K.content keep.old)))) }
-    ensures front { StartsWith out.new.items out.old.items }
-    ensures faults { Faults result (K.is_honest keep.new) (K.is_failed keep.new)
-        (K.content keep.old) }
-    ensures read { IsRead K.content K.is_failed K.is_honest K.may_leave keep.old keep.new }
+    ensures { PutsPart K.Keep keep.old keep.new result
+        (λ t. front_by t ++ (middle_by t ++ back_by t)) out.old.items out.new.items }
 {
     put_front(alloc, keep, out)?;
     put_middle(alloc, keep, out)?;
@@ -223,12 +155,8 @@ fn put_all<K: Keep>(alloc: Global, keep: &mut K, out: &mut Vec<u8>) -> Result<()
 // The record by the tables.
 #[tactic(auto, using(pages_json::proofs::Texts::front_then))]
 fn put_record<K: Keep>(alloc: Global, keep: &mut K, out: &mut Vec<u8>) -> Result<(), KeepFault>
-    ensures text { K.is_honest keep.new → OnOk result
-        (out.new.items ≡ out.old.items ++ text_of (record_by (K.content keep.old))) }
-    ensures front { StartsWith out.new.items out.old.items }
-    ensures faults { Faults result (K.is_honest keep.new) (K.is_failed keep.new)
-        (K.content keep.old) }
-    ensures read { IsRead K.content K.is_failed K.is_honest K.may_leave keep.old keep.new }
+    ensures { PutsText K.Keep keep.old keep.new result (λ t. text_of (record_by t))
+        out.old.items out.new.items }
 {
     // Asked first, so that a keep that has failed answers so.
     keep.settings()?;
@@ -245,13 +173,7 @@ pub fn append_record<K: Keep>(
     keep: &mut K,
     out: &mut Vec<u8>,
 ) -> Result<(), KeepFault>
-    ensures shown { K.is_honest keep.new → (settings : TheSettings) (h : History)
-        → K.content keep.old ≡ tables_of settings h
-        → OnOk result (out.new.items ≡ out.old.items ++ record_text settings h) }
-    ensures err { OnErr result (out.new.items ≡ out.old.items) }
-    ensures faults { Faults result (K.is_honest keep.new) (K.is_failed keep.new)
-        (K.content keep.old) }
-    ensures read { IsRead K.content K.is_failed K.is_honest K.may_leave keep.old keep.new }
+    ensures { ShowsRecord K.Keep keep.old keep.new result out.old.items out.new.items }
 {
     let before = out.len();
     let put = put_record(alloc, keep, out);

@@ -1,16 +1,11 @@
 //! The public record as a tree, grown list by list into the members of one object. The program writes
 //! text: only tests make trees.
-ghost use Rattle.std.specs.Prelude.{◌≡◌, ◌∷◌, ◌++◌, [], codes, IfOk, OnOk};
+ghost use Rattle.std.specs.Prelude.{◌≡◌, ◌∷◌, ◌++◌, [], codes, OnOk};
 ghost use Rattle.serde_json.specs.Data.{string};
 ghost use Rattle.serde_json.specs.View.{members_view, view};
-ghost use Rattle.house_rows.specs.declared.settings.Settings.{Settings as TheSettings};
-ghost use Rattle.house_rows.specs.History.{History};
-ghost use Rattle.house_rows.specs.Keeping.{IsRead};
-ghost use Rattle.house_rows.specs.Tables.{tables_of};
-ghost use Rattle.house_rows.specs.Views.{public_view};
 ghost use Rattle.pages_json.specs.Words.{put_all, whole};
-ghost use Rattle.pages_text.specs.Faults.{PageFaults};
-ghost use Rattle.pages_record.specs.Record.{back_by, bands_by, categories_by, clock_by, editions_by, feedback_by, front_by, items_by, members_by, middle_by, questions_by, record_by, record_tree, settings_by};
+ghost use Rattle.pages_record.specs.Promises.{GrowsPart, GrowsRecord, GrowsTree};
+ghost use Rattle.pages_record.specs.Record.{back_by, bands_by, categories_by, clock_by, editions_by, feedback_by, front_by, items_by, members_by, middle_by, questions_by, record_by, settings_by};
 
 use crate::editions::{AsEditions, numbers_to, rows_of};
 use house_rows::{Keep, Settings};
@@ -41,11 +36,7 @@ fn grow_bands<K: Keep>(
     keep: &mut K,
     members: &mut Map<String, Value>,
 ) -> Result<(), PageFault>
-    ensures grown { K.is_honest keep.new → OnOk result (members_view members.new.entries
-        ≡ put_all (bands_by (K.content keep.old)) (members_view members.old.entries)) }
-    ensures faults { PageFaults result (K.is_honest keep.new) (K.is_failed keep.new)
-        (K.content keep.old) }
-    ensures read { IsRead K.content K.is_failed K.is_honest K.may_leave keep.old keep.new }
+    ensures { GrowsPart K.Keep keep.old keep.new result bands_by members.old members.new }
 {
     grow_member_list(
         alloc,
@@ -62,11 +53,7 @@ fn grow_categories<K: Keep>(
     keep: &mut K,
     members: &mut Map<String, Value>,
 ) -> Result<(), PageFault>
-    ensures grown { K.is_honest keep.new → OnOk result (members_view members.new.entries
-        ≡ put_all (categories_by (K.content keep.old)) (members_view members.old.entries)) }
-    ensures faults { PageFaults result (K.is_honest keep.new) (K.is_failed keep.new)
-        (K.content keep.old) }
-    ensures read { IsRead K.content K.is_failed K.is_honest K.may_leave keep.old keep.new }
+    ensures { GrowsPart K.Keep keep.old keep.new result categories_by members.old members.new }
 {
     let categories = keep.categories()?;
     grow_member_list(alloc, members, "categories", &AsCategories, &categories)?;
@@ -78,11 +65,7 @@ fn grow_clock<K: Keep>(
     keep: &mut K,
     members: &mut Map<String, Value>,
 ) -> Result<(), PageFault>
-    ensures grown { K.is_honest keep.new → OnOk result (members_view members.new.entries
-        ≡ put_all (clock_by (K.content keep.old)) (members_view members.old.entries)) }
-    ensures faults { PageFaults result (K.is_honest keep.new) (K.is_failed keep.new)
-        (K.content keep.old) }
-    ensures read { IsRead K.content K.is_failed K.is_honest K.may_leave keep.old keep.new }
+    ensures { GrowsPart K.Keep keep.old keep.new result clock_by members.old members.new }
 {
     let clock = keep.clock()?;
     grow_members(alloc, members, &[(key!("clock"), Field::Number(clock))])?;
@@ -95,11 +78,7 @@ fn grow_front<K: Keep>(
     keep: &mut K,
     members: &mut Map<String, Value>,
 ) -> Result<(), PageFault>
-    ensures grown { K.is_honest keep.new → OnOk result (members_view members.new.entries
-        ≡ put_all (front_by (K.content keep.old)) (members_view members.old.entries)) }
-    ensures faults { PageFaults result (K.is_honest keep.new) (K.is_failed keep.new)
-        (K.content keep.old) }
-    ensures read { IsRead K.content K.is_failed K.is_honest K.may_leave keep.old keep.new }
+    ensures { GrowsPart K.Keep keep.old keep.new result front_by members.old members.new }
 {
     grow_bands(alloc, keep, members)?;
     grow_categories(alloc, keep, members)?;
@@ -112,11 +91,7 @@ fn grow_editions<K: Keep>(
     keep: &mut K,
     members: &mut Map<String, Value>,
 ) -> Result<(), PageFault>
-    ensures grown { K.is_honest keep.new → OnOk result (members_view members.new.entries
-        ≡ put_all (editions_by (K.content keep.old)) (members_view members.old.entries)) }
-    ensures faults { PageFaults result (K.is_honest keep.new) (K.is_failed keep.new)
-        (K.content keep.old) }
-    ensures read { IsRead K.content K.is_failed K.is_honest K.may_leave keep.old keep.new }
+    ensures { GrowsPart K.Keep keep.old keep.new result editions_by members.old members.new }
 {
     let form = AsEditions {
         editions: keep.editions()?,
@@ -131,11 +106,7 @@ fn grow_feedback<K: Keep>(
     keep: &mut K,
     members: &mut Map<String, Value>,
 ) -> Result<(), PageFault>
-    ensures grown { K.is_honest keep.new → OnOk result (members_view members.new.entries
-        ≡ put_all (feedback_by (K.content keep.old)) (members_view members.old.entries)) }
-    ensures faults { PageFaults result (K.is_honest keep.new) (K.is_failed keep.new)
-        (K.content keep.old) }
-    ensures read { IsRead K.content K.is_failed K.is_honest K.may_leave keep.old keep.new }
+    ensures { GrowsPart K.Keep keep.old keep.new result feedback_by members.old members.new }
 {
     let feedback = keep.all_feedback()?;
     grow_member_list(alloc, members, "feedback", &AsFeedback, &feedback)?;
@@ -147,11 +118,7 @@ fn grow_items<K: Keep>(
     keep: &mut K,
     members: &mut Map<String, Value>,
 ) -> Result<(), PageFault>
-    ensures grown { K.is_honest keep.new → OnOk result (members_view members.new.entries
-        ≡ put_all (items_by (K.content keep.old)) (members_view members.old.entries)) }
-    ensures faults { PageFaults result (K.is_honest keep.new) (K.is_failed keep.new)
-        (K.content keep.old) }
-    ensures read { IsRead K.content K.is_failed K.is_honest K.may_leave keep.old keep.new }
+    ensures { GrowsPart K.Keep keep.old keep.new result items_by members.old members.new }
 {
     let items = keep.items()?;
     let form = ByEditions {
@@ -166,11 +133,7 @@ fn grow_all_members<K: Keep>(
     keep: &mut K,
     members: &mut Map<String, Value>,
 ) -> Result<(), PageFault>
-    ensures grown { K.is_honest keep.new → OnOk result (members_view members.new.entries
-        ≡ put_all (members_by (K.content keep.old)) (members_view members.old.entries)) }
-    ensures faults { PageFaults result (K.is_honest keep.new) (K.is_failed keep.new)
-        (K.content keep.old) }
-    ensures read { IsRead K.content K.is_failed K.is_honest K.may_leave keep.old keep.new }
+    ensures { GrowsPart K.Keep keep.old keep.new result members_by members.old members.new }
 {
     let rows = keep.members()?;
     grow_member_list(alloc, members, "members", &AsMembers, &rows)?;
@@ -183,11 +146,7 @@ fn grow_middle<K: Keep>(
     keep: &mut K,
     members: &mut Map<String, Value>,
 ) -> Result<(), PageFault>
-    ensures grown { K.is_honest keep.new → OnOk result (members_view members.new.entries
-        ≡ put_all (middle_by (K.content keep.old)) (members_view members.old.entries)) }
-    ensures faults { PageFaults result (K.is_honest keep.new) (K.is_failed keep.new)
-        (K.content keep.old) }
-    ensures read { IsRead K.content K.is_failed K.is_honest K.may_leave keep.old keep.new }
+    ensures { GrowsPart K.Keep keep.old keep.new result middle_by members.old members.new }
 {
     grow_editions(alloc, keep, members)?;
     grow_feedback(alloc, keep, members)?;
@@ -200,11 +159,7 @@ fn grow_questions<K: Keep>(
     keep: &mut K,
     members: &mut Map<String, Value>,
 ) -> Result<(), PageFault>
-    ensures grown { K.is_honest keep.new → OnOk result (members_view members.new.entries
-        ≡ put_all (questions_by (K.content keep.old)) (members_view members.old.entries)) }
-    ensures faults { PageFaults result (K.is_honest keep.new) (K.is_failed keep.new)
-        (K.content keep.old) }
-    ensures read { IsRead K.content K.is_failed K.is_honest K.may_leave keep.old keep.new }
+    ensures { GrowsPart K.Keep keep.old keep.new result questions_by members.old members.new }
 {
     let questions = keep.all_published()?;
     grow_member_list(alloc, members, "questions", &AsQuestions, &questions)?;
@@ -236,11 +191,7 @@ fn grow_settings<K: Keep>(
     keep: &mut K,
     members: &mut Map<String, Value>,
 ) -> Result<(), PageFault>
-    ensures grown { K.is_honest keep.new → OnOk result (members_view members.new.entries
-        ≡ put_all (settings_by (K.content keep.old)) (members_view members.old.entries)) }
-    ensures faults { PageFaults result (K.is_honest keep.new) (K.is_failed keep.new)
-        (K.content keep.old) }
-    ensures read { IsRead K.content K.is_failed K.is_honest K.may_leave keep.old keep.new }
+    ensures { GrowsPart K.Keep keep.old keep.new result settings_by members.old members.new }
 {
     grow_settings_of(alloc, members, keep.settings()?)?;
     Ok(())
@@ -252,11 +203,7 @@ fn grow_back<K: Keep>(
     keep: &mut K,
     members: &mut Map<String, Value>,
 ) -> Result<(), PageFault>
-    ensures grown { K.is_honest keep.new → OnOk result (members_view members.new.entries
-        ≡ put_all (back_by (K.content keep.old)) (members_view members.old.entries)) }
-    ensures faults { PageFaults result (K.is_honest keep.new) (K.is_failed keep.new)
-        (K.content keep.old) }
-    ensures read { IsRead K.content K.is_failed K.is_honest K.may_leave keep.old keep.new }
+    ensures { GrowsPart K.Keep keep.old keep.new result back_by members.old members.new }
 {
     grow_all_members(alloc, keep, members)?;
     grow_questions(alloc, keep, members)?;
@@ -271,12 +218,8 @@ fn grow_all<K: Keep>(
     keep: &mut K,
     members: &mut Map<String, Value>,
 ) -> Result<(), PageFault>
-    ensures grown { K.is_honest keep.new → OnOk result (members_view members.new.entries
-        ≡ put_all (front_by (K.content keep.old) ++ (middle_by (K.content keep.old)
-        ++ back_by (K.content keep.old))) (members_view members.old.entries)) }
-    ensures faults { PageFaults result (K.is_honest keep.new) (K.is_failed keep.new)
-        (K.content keep.old) }
-    ensures read { IsRead K.content K.is_failed K.is_honest K.may_leave keep.old keep.new }
+    ensures { GrowsPart K.Keep keep.old keep.new result
+        (λ t. front_by t ++ (middle_by t ++ back_by t)) members.old members.new }
 {
     grow_front(alloc, keep, members)?;
     grow_middle(alloc, keep, members)?;
@@ -286,11 +229,7 @@ fn grow_all<K: Keep>(
 
 // The record by the tables.
 fn grow_record<K: Keep>(alloc: Global, keep: &mut K) -> Result<Value, PageFault>
-    ensures grown { K.is_honest keep.new
-        → IfOk result (λ v. view v ≡ record_by (K.content keep.old)) }
-    ensures faults { PageFaults result (K.is_honest keep.new) (K.is_failed keep.new)
-        (K.content keep.old) }
-    ensures read { IsRead K.content K.is_failed K.is_honest K.may_leave keep.old keep.new }
+    ensures { GrowsTree K.Keep keep.old keep.new result (λ t v. view v ≡ record_by t) }
 {
     // Asked first, so that a keep that has failed answers so.
     keep.settings()?;
@@ -302,12 +241,7 @@ fn grow_record<K: Keep>(alloc: Global, keep: &mut K) -> Result<Value, PageFault>
 /// Makes the tree of the public record, whose compact text is what `append_record` appends.
 #[tactic(auto, using(crate::proofs::Public::record_same))]
 pub fn record<K: Keep>(alloc: Global, keep: &mut K) -> Result<Value, PageFault>
-    ensures shown { K.is_honest keep.new → (settings : TheSettings) (h : History)
-        → K.content keep.old ≡ tables_of settings h
-        → IfOk result (λ v. view v ≡ record_tree (public_view settings h)) }
-    ensures faults { PageFaults result (K.is_honest keep.new) (K.is_failed keep.new)
-        (K.content keep.old) }
-    ensures read { IsRead K.content K.is_failed K.is_honest K.may_leave keep.old keep.new }
+    ensures { GrowsRecord K.Keep keep.old keep.new result }
 {
     grow_record(alloc, keep)
 }

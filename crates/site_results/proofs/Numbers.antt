@@ -15,12 +15,13 @@ use Rattle.house_rows.specs.declared.command_result.CommandResult.TheVariants.{R
 use Rattle.house_rows.specs.Editions.{editions}
 use Rattle.house_rows.specs.History.{History}
 use Rattle.house_rows.specs.Items.{items_shown, shown_now}
-use Rattle.house_rows.specs.Limits.{most_categories, most_editions, most_items, most_members}
+use Rattle.house_rows.specs.Limits.{most_editions}
 use Rattle.house_rows.specs.Listings.{listings, tables_set}
 use Rattle.house_rows.specs.People.{categories, members}
 use Rattle.house_rows.specs.Runs.{entry}
 use Rattle.house_rows.specs.Tables.{Tables, row_now, tables_of}
 use Rattle.house_rows.proofs.GoesBy.{set_count}
+use Rattle.site_results.specs.ByTables.{IsResultBy}
 use Rattle.site_results.proofs.Seen.{IsReported, ok_as, report_as}
 
 member_reported : (settings : Settings) (h : History) (moment caller : ℕ) (name : List ℕ) (r : CommandResult)
@@ -31,11 +32,11 @@ member_reported settings h moment caller name r is =
 
 pub register_reported : (t : Tables) (settings : Settings) (h : History) (moment caller : ℕ) (k : Command) (result : Result CommandResult KeepFault) (at' : ℕ) (name : Bor (List ℕ)) → t ≡ tables_of settings h
     → IsAccepted settings h moment caller k (change.Register at' name) → IsOf moment caller k (change.Register at' name)
-    → (length t.members < most_members → IfOk result (λ r. r ≡ Registered (length t.members + 1))) → IfOk result (IsReported settings h moment caller k)
+    → IfOk result (IsResultBy t (change.Register at' name)) → IfOk result (IsReported settings h moment caller k)
 register_reported t settings h moment caller k result at' name e is own value =
-    ok_as (λ r. r ≡ Registered (length (tables_of settings h).members + 1)) (IsReported settings h moment caller k) result
-    (λ r v. report_as settings h moment caller (command.Register name.now) k r own.same_command (member_reported settings h moment caller name.now r v))
-    ((rw e at value) is.fits.room)
+    ok_as (IsResultBy (tables_of settings h) (change.Register at' name)) (IsReported settings h moment caller k) result
+    (λ r v. report_as settings h moment caller (command.Register name.now) k r own.same_command (member_reported settings h moment caller name.now r (v is.fits.room)))
+    (rw e at value)
 
 category_reported : (settings : Settings) (h : History) (moment caller : ℕ) (name : List ℕ) (r : CommandResult)
     → r ≡ Added (length (tables_of settings h).categories + 1) → IsReported settings h moment caller (command.AddCategory name) r
@@ -45,11 +46,11 @@ category_reported settings h moment caller name r is =
 
 pub add_reported : (t : Tables) (settings : Settings) (h : History) (moment caller : ℕ) (k : Command) (result : Result CommandResult KeepFault) (at' : ℕ) (name : Bor (List ℕ)) → t ≡ tables_of settings h
     → IsAccepted settings h moment caller k (change.AddCategory at' name) → IsOf moment caller k (change.AddCategory at' name)
-    → (length t.categories < most_categories → IfOk result (λ r. r ≡ Added (length t.categories + 1))) → IfOk result (IsReported settings h moment caller k)
+    → IfOk result (IsResultBy t (change.AddCategory at' name)) → IfOk result (IsReported settings h moment caller k)
 add_reported t settings h moment caller k result at' name e is own value =
-    ok_as (λ r. r ≡ Added (length (tables_of settings h).categories + 1)) (IsReported settings h moment caller k) result
-    (λ r v. report_as settings h moment caller (command.AddCategory name.now) k r own.same_command (category_reported settings h moment caller name.now r v))
-    ((rw e at value) is.fits.room)
+    ok_as (IsResultBy (tables_of settings h) (change.AddCategory at' name)) (IsReported settings h moment caller k) result
+    (λ r v. report_as settings h moment caller (command.AddCategory name.now) k r own.same_command (category_reported settings h moment caller name.now r (v is.fits.room)))
+    (rw e at value)
 
 -- as many items are seen as were listed
 seen_count : (settings : Settings) (h : History) → length (items_shown settings h) ≡ length (listings h)
@@ -67,12 +68,12 @@ item_reported settings h moment caller category lot title text start buy_now end
 
 pub list_reported : (t : Tables) (settings : Settings) (h : History) (moment caller : ℕ) (k : Command) (result : Result CommandResult KeepFault) (at' : ℕ) (item : NewItem) → t ≡ tables_of settings h
     → IsAccepted settings h moment caller k (change.List at' item) → IsOf moment caller k (change.List at' item)
-    → (length t.items < most_items → IfOk result (λ r. r ≡ Listing (length t.items + 1))) → IfOk result (IsReported settings h moment caller k)
+    → IfOk result (IsResultBy t (change.List at' item)) → IfOk result (IsReported settings h moment caller k)
 list_reported t settings h moment caller k result at' item e is own value =
-    ok_as (λ r. r ≡ Listing (length (tables_of settings h).items + 1)) (IsReported settings h moment caller k) result
+    ok_as (IsResultBy (tables_of settings h) (change.List at' item)) (IsReported settings h moment caller k) result
     (λ r v. report_as settings h moment caller (command.List item.category item.lot.now item.title.now item.text.now item.start item.buy_now item.end item.reserve) k r own.same_command
-    (item_reported settings h moment caller item.category item.lot.now item.title.now item.text.now item.start item.buy_now item.end item.reserve r v))
-    ((rw e at value) is.fits.room)
+    (item_reported settings h moment caller item.category item.lot.now item.title.now item.text.now item.start item.buy_now item.end item.reserve r (v is.fits.room)))
+    (rw e at value)
 
 table_reported : (settings : Settings) (h : History) (moment caller : ℕ) (bands : List (ℕ × ℕ)) (r : CommandResult)
     → r ≡ Edition (length (tables_of settings h).editions + 2) → IsReported settings h moment caller (command.SetBands bands) r

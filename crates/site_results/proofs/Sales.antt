@@ -1,6 +1,6 @@
 -- The results of a purchase, a close and a settlement.
 use Rattle.std.proofs.Common.{◌≡◌, ◌∷◌, ◌-◌, ℕ, suc, List, [], map, Bool, true, not, refl, ◌∙◌, ap, sym, inl, inr, arith, Some}
-use Rattle.std.specs.Prelude.{Result, Ok, Err, IfOk, ◌==◌, ◌&&◌, option_map}
+use Rattle.std.specs.Prelude.{Result, IfOk, ◌==◌, ◌&&◌, option_map}
 use Rattle.std.proofs.lemmas.Bool.Decides.{nat_tests}
 use Rattle.settle.specs.Fee.{fee_of}
 use Rattle.house.specs.Decided.{IsAccepted}
@@ -111,21 +111,11 @@ sale_reported settings h moment caller at' i row r found is tells =
 
 pub settle_reported : (t : Tables) (settings : Settings) (h : History) (moment caller : ℕ) (k : Command) (result : Result CommandResult KeepFault) (at' i : ℕ) → t ≡ tables_of settings h
     → IsAccepted settings h moment caller k (change.Settle at' i) → IsOf moment caller k (change.Settle at' i)
-    → ((terms : Terms) → terms_at t i ≡ Some terms → IfOk result (λ r. r ≡ Settlement (fee_of terms.price t.settings.rate) i (terms.price - fee_of terms.price t.settings.rate) terms.price))
-    → IfOk result (IsReported settings h moment caller k)
+    → IfOk result (IsResultBy t (change.Settle at' i)) → IfOk result (IsReported settings h moment caller k)
 settle_reported t settings h moment caller k result at' i e is own value =
     let fits = is.fits in
     let terms_there : terms_at (tables_of settings h) i ≡ Some fits.row.item.terms = ap (option_map (λ (row : ItemRow). row.item.terms)) fits.row_there in
-    ok_as (λ r. IsSettled (tables_of settings h) i r fits.row.item.terms) (IsReported settings h moment caller k) result
+    ok_as (IsResultBy (tables_of settings h) (change.Settle at' i)) (IsReported settings h moment caller k) result
     (λ r v. report_as settings h moment caller (command.Settle i) k r own.same_command
-    (sale_reported settings h moment caller at' i fits.row r fits.row_there (accepted_as settings h moment caller (command.Settle i) k (change.Settle at' i) own.same_command is) v))
-    ((rw e at value) fits.row.item.terms terms_there)
-
--- the result of a settlement is that of its change
-pub settled_by_tables : (t : Tables) (moment item : ℕ) (result : Result CommandResult KeepFault)
-    → ((terms : Terms) → terms_at t item ≡ Some terms → IfOk result (λ r. r
-    ≡ Settlement (fee_of terms.price t.settings.rate) item
-    (terms.price - fee_of terms.price t.settings.rate) terms.price))
-    → IfOk result (IsResultBy t (change.Settle moment item))
-settled_by_tables t moment item (Ok told) each = each
-settled_by_tables t moment item (Err fault) each = tt
+    (sale_reported settings h moment caller at' i fits.row r fits.row_there (accepted_as settings h moment caller (command.Settle i) k (change.Settle at' i) own.same_command is) (v fits.row.item.terms terms_there)))
+    (rw e at value)

@@ -7,7 +7,7 @@
 
 mod bands;
 mod bidding;
-mod closure;
+mod close;
 mod listing;
 mod people;
 mod results;

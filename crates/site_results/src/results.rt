@@ -1,22 +1,17 @@
-//! The result of an accepted command.
+//! What the caller is told of a change that was made.
 ghost use Rattle.std.specs.Prelude.{◌≡◌, ◌∷◌, ℕ, false, IfOk};
 ghost use Rattle.house.specs.Decided.{IsAccepted};
 ghost use Rattle.house.specs.Own.{IsOf};
+ghost use Rattle.house_rows.specs.Answers.{Answers, OverHistory};
 ghost use Rattle.house_rows.specs.declared.command.Command.{Command};
-ghost use Rattle.house_rows.specs.declared.settings.Settings.{Settings as TheSettings};
-ghost use Rattle.house_rows.specs.History.{History};
-ghost use Rattle.house_rows.specs.Keeping.{Faults, IsRead};
 ghost use Rattle.house_rows.specs.Making.{ChangeRowsFit};
 ghost use Rattle.house_rows.specs.Runs.{entry};
-ghost use Rattle.house_rows.specs.Tables.{tables_of};
-ghost use Rattle.house_rows.specs.Taken.{IsUndamaged};
 ghost use Rattle.house_rows.specs.CommandResult.{result_of};
-ghost use Rattle.house_rows.specs.Verdict.{IsHistory};
 ghost use Rattle.site_results.specs.ByTables.{IsResultBy};
 
 use crate::bands::next_edition;
 use crate::bidding::tell_bid;
-use crate::closure::tell_close;
+use crate::close::tell_close;
 use crate::listing::tell_listing;
 use crate::people::{tell_category, tell_member};
 use crate::settlement::tell_settlement;
@@ -26,17 +21,13 @@ use house_rows::{Change, CommandResult, Keep, KeepFault};
 /// change. The keep has not failed; nothing is changed.
 pub fn tell<K: Keep>(keep: &mut K, change: &Change<'_>) -> Result<CommandResult, KeepFault>
     requires going { K.is_failed keep.old ≡ false }
-    ensures report { K.is_honest keep.new → (settings : TheSettings) (h : History) → IsHistory settings h
-        → K.content keep.old ≡ tables_of settings h → (moment caller : ℕ) (command : Command)
-        → IsAccepted settings h moment caller command change.now → IsOf moment caller command change.now
-        → IfOk result (λ r.
-        r ≡ result_of settings (entry moment caller command ∷ h) moment caller command h) }
-    ensures by_tables { K.is_honest keep.new
-        → IfOk result (IsResultBy (K.content keep.old) change.now) }
-    ensures faults { Faults result (K.is_honest keep.new) (K.is_failed keep.new) (K.content keep.old) }
-    ensures damaged { K.is_honest keep.new
-        → ChangeRowsFit (K.content keep.old) change.now → IsUndamaged result }
-    ensures read { IsRead K.content K.is_failed K.is_honest K.may_leave keep.old keep.new }
+    ensures report { OverHistory K.Keep keep.old keep.new (λ settings h.
+        (moment caller : ℕ) (command : Command)
+        → IsAccepted settings h moment caller command change.now
+        → IsOf moment caller command change.now → IfOk result (λ r. r
+        ≡ result_of settings (entry moment caller command ∷ h) moment caller command h)) }
+    ensures answers { Answers K.Keep keep.old keep.new result
+        (λ t r. IsResultBy t change.now r) (λ t. ChangeRowsFit t change.now) }
 {
     match change {
         Change::Register { .. } => tell_member(keep),

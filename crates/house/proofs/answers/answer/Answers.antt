@@ -2,6 +2,7 @@ use Rattle.std.proofs.Common.{◌≡◌, ◌≢◌, ℕ, true, false, refl, ◌�
 use Rattle.std.specs.Prelude.{◌==◌}
 use Rattle.std.proofs.lemmas.Bool.Decides.{nat_tests}
 use Rattle.house_rows.specs.Found.{question_at}
+use Rattle.house.proofs.Decides.{accepts, looked, refuses}
 use Rattle.house.proofs.NewAnswers.{answer_accepts, answer_fits, answer_of_other, answer_of_seller, answer_refused, question_named}
 use Rattle.house.proofs.Unchanged.{still_there}
 use Rattle.house.proofs.answers.answer.Goals as goal
@@ -20,39 +21,38 @@ found g c honest =
     rw (still_there c.in_ok-on.field-0 g.K.Keep.content g.K.Keep.is_failed g.K.Keep.is_honest g.K.Keep.may_leave c.args.keep.now c.on_item.new.keep
     c.in_ok-on.ensures.faults c.in_ok-on.ensures.read (c.in_ok-question.ensures.read.honest honest)) at (c.in_ok-question.ensures.value honest)
 
-pub returns-in-Err-clause-decided : goal.returns-in-Err-clause-decided
-returns-in-Err-clause-decided g c = λ honest settings h is e.
-    answer_refused (g.K.Keep.content c.args.keep.now) settings h c.args.moment c.args.caller c.args.item c.args.asker c.args.number c.args.text.now c.in-Err.refusal e (rw c.in-Err.is at c.in_ok-on.ensures.value honest)
+pub returns-in-Err : goal.returns-in-Err
+returns-in-Err g c = refuses c.in_ok-on.ensures.faults c.in_ok-on.ensures.read (λ honest settings h is e.
+    answer_refused (g.K.Keep.content c.args.keep.now) settings h c.args.moment c.args.caller c.args.item c.args.asker c.args.number c.args.text.now c.in-Err.refusal e (rw c.in-Err.is at c.in_ok-on.ensures.value honest))
 
-pub returns-then-from-caller-clause-decided : goal.returns-then-from-caller-clause-decided
-returns-then-from-caller-clause-decided g c = λ honest settings h is e.
+pub returns-then-from-caller : goal.returns-then-from-caller
+returns-then-from-caller g c = refuses c.in_ok-on.ensures.faults c.in_ok-on.ensures.read (λ honest settings h is e.
     let on = rw c.in-Ok.is at c.in_ok-on.ensures.value honest in
     answer_of_other (g.K.Keep.content c.args.keep.now) settings h c.args.moment c.args.caller c.args.item c.args.asker c.args.number c.args.text.now c.in-Ok.on.terms e on.1 on.2
-    (sells_not c.from.result c.in-Ok.on.terms.seller c.args.caller c.from.ensures c.if-from-caller.true)
+    (sells_not c.from.result c.in-Ok.on.terms.seller c.args.caller c.from.ensures c.if-from-caller.true))
 
-pub returns-in-Err-waiting-clause-decided : goal.returns-in-Err-waiting-clause-decided
-returns-in-Err-waiting-clause-decided g c = λ honest settings h is e.
+pub returns-in-Err-waiting : goal.returns-in-Err-waiting
+returns-in-Err-waiting g c = refuses c.in_ok-question.ensures.faults
+    (looked c.in_ok-on.ensures.faults c.in_ok-on.ensures.read c.in_ok-question.ensures.read) (λ honest settings h is e.
     let on = rw c.in-Ok.is at c.in_ok-on.ensures.value (c.in_ok-question.ensures.read.honest honest) in
     answer_of_seller (g.K.Keep.content c.args.keep.now) settings h c.args.moment c.args.caller c.args.item c.args.asker c.args.number c.args.text.now c.in-Ok.on.terms e on.1 on.2
     (sells c.from.result c.in-Ok.on.terms.seller c.args.caller c.from.ensures c.if-from-caller.false)
-    ∙ sym (rw (found g (goal.at.returns-in-Err-waiting-clause-decided g c).In_ok-question honest) at c.in-Err-waiting.ensures)
+    ∙ sym (rw (found g (goal.at.returns-in-Err-waiting g c).In_ok-question honest) at c.in-Err-waiting.ensures))
 
-pub returns-in-Ok-waiting-clause-decided : goal.returns-in-Ok-waiting-clause-decided
-returns-in-Ok-waiting-clause-decided g c = λ honest settings h is e.
+pub returns-in-Ok-waiting : goal.returns-in-Ok-waiting
+returns-in-Ok-waiting g c = accepts c.in_ok-question.ensures.faults
+    (looked c.in_ok-on.ensures.faults c.in_ok-on.ensures.read c.in_ok-question.ensures.read)
+    (λ honest settings h is e.
     let on = rw c.in-Ok.is at c.in_ok-on.ensures.value (c.in_ok-question.ensures.read.honest honest) in
-    let asked = rw (found g (goal.at.returns-in-Ok-waiting-clause-decided g c).In_ok-question honest) at c.in-Ok-waiting.ensures in
+    let asked = rw (found g (goal.at.returns-in-Ok-waiting g c).In_ok-question honest) at c.in-Ok-waiting.ensures in
     answer_accepts (g.K.Keep.content c.args.keep.now) settings h c.args.moment c.args.caller c.args.item c.args.asker c.args.number c.args.text.now c.in-Ok.on.terms c.in-Ok-waiting.question c.args.text
-    e refl on.1 on.2 (sells c.from.result c.in-Ok.on.terms.seller c.args.caller c.from.ensures c.if-from-caller.false) asked.0 asked.1
-
-pub returns-in-Ok-waiting-clause-fits : goal.returns-in-Ok-waiting-clause-fits
-returns-in-Ok-waiting-clause-fits g c = λ honest rows change_rows.
+    e refl on.1 on.2 (sells c.from.result c.in-Ok.on.terms.seller c.args.caller c.from.ensures c.if-from-caller.false) asked.0 asked.1)
+    (λ honest rows change_rows.
     let on = rw c.in-Ok.is at c.in_ok-on.ensures.value (c.in_ok-question.ensures.read.honest honest) in
-    let asked = rw (found g (goal.at.returns-in-Ok-waiting-clause-fits g c).In_ok-question honest) at c.in-Ok-waiting.ensures in
+    let asked = rw (found g (goal.at.returns-in-Ok-waiting g c).In_ok-question honest) at c.in-Ok-waiting.ensures in
     answer_fits (g.K.Keep.content c.args.keep.now) c.args.moment c.args.caller c.args.item c.args.asker c.args.number c.args.text.now c.in-Ok-waiting.question c.args.text
-    refl on.2 asked.0 asked.1
-
-pub returns-in-Ok-waiting-clause-own : goal.returns-in-Ok-waiting-clause-own
-returns-in-Ok-waiting-clause-own g c = λ honest.
-    let asked = rw (found g (goal.at.returns-in-Ok-waiting-clause-own g c).In_ok-question honest) at c.in-Ok-waiting.ensures in
+    refl on.2 asked.0 asked.1)
+    (λ honest.
+    let asked = rw (found g (goal.at.returns-in-Ok-waiting g c).In_ok-question honest) at c.in-Ok-waiting.ensures in
     let named = question_named (g.K.Keep.content c.args.keep.now) c.args.item c.args.asker c.args.number c.in-Ok-waiting.question asked.0 in
-    record { same_command = rw (named.same_item, named.same_asker, named.same_number) refl; same_caller = tt; same_moment = refl }
+    record { same_command = rw (named.same_item, named.same_asker, named.same_number) refl; same_caller = tt; same_moment = refl })

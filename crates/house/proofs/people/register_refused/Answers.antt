@@ -4,10 +4,15 @@ use Rattle.house.specs.Judged.{first_rules}
 use Rattle.house.proofs.Found.{answer_after}
 use Rattle.house.proofs.people.register_refused.Goals as goal
 
-pub returns-in-None-clause-value : goal.returns-in-None-clause-value
-returns-in-None-clause-value g c = λ honest.
-    let going : g.K.Keep.is_failed c.common.new.keep ≡ false = search rules in
-    let before = c.member_refused.ensures.read.honest honest in
-    let same : g.K.Keep.content c.common.new.keep ≡ g.K.Keep.content c.args.keep.now = c.in_ok-refusal.ensures.read.same before going in
-    answer_after (first_rules (g.K.Keep.content c.args.keep.now) c.args.moment c.args.caller true) (register_rules c.args.name.now (g.K.Keep.content c.args.keep.now).members)
-    c.member_refused.result (sym (c.in_ok-refusal.ensures.value before) ∙ c.in-None.is) (rw same at (c.member_refused.ensures.value honest))
+pub returns-in-None : goal.returns-in-None
+returns-in-None g c = record {
+  value = λ honest.
+      let going : g.K.Keep.is_failed c.common.new.keep ≡ false = search rules in
+      let before = c.member_refused.ensures.read.honest honest in
+      let same : g.K.Keep.content c.common.new.keep ≡ g.K.Keep.content c.args.keep.now = c.in_ok-refusal.ensures.answers.read.same before going in
+      answer_after (first_rules (g.K.Keep.content c.args.keep.now) c.args.moment c.args.caller true) (register_rules c.args.name.now (g.K.Keep.content c.args.keep.now).members)
+      c.member_refused.result (sym (c.in_ok-refusal.ensures.answers.value before) ∙ c.in-None.is) (rw same at (c.member_refused.ensures.value honest));
+  faults = search rules;
+  damaged = search rules;
+  read = search rules;
+}

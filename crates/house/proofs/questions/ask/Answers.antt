@@ -1,5 +1,6 @@
 use Rattle.std.proofs.Common.{◌≡◌, refl, ◌∙◌, sym}
 use Rattle.house_rows.specs.Found.{ask_count}
+use Rattle.house.proofs.Decides.{accepts, looked, refuses}
 use Rattle.house.proofs.NewQuestions.{ask_accepts, ask_fits, ask_judged, ask_refused}
 use Rattle.house.proofs.OnItems.{row_there}
 use Rattle.house.proofs.Unchanged.{still_there}
@@ -12,31 +13,30 @@ counted g c honest =
     rw (still_there c.in_ok-on.field-0 g.K.Keep.content g.K.Keep.is_failed g.K.Keep.is_honest g.K.Keep.may_leave c.args.keep.now c.on_item.new.keep
     c.in_ok-on.ensures.faults c.in_ok-on.ensures.read (c.in_ok-count.ensures.read.honest honest)) at (c.in_ok-count.ensures.value honest)
 
-pub returns-in-Err-clause-decided : goal.returns-in-Err-clause-decided
-returns-in-Err-clause-decided g c = λ honest settings h is e.
-    ask_refused (g.K.Keep.content c.args.keep.now) settings h c.args.moment c.args.caller c.args.item c.args.text.now c.in-Err.refusal e (rw c.in-Err.is at c.in_ok-on.ensures.value honest)
+pub returns-in-Err : goal.returns-in-Err
+returns-in-Err g c = refuses c.in_ok-on.ensures.faults c.in_ok-on.ensures.read (λ honest settings h is e.
+    ask_refused (g.K.Keep.content c.args.keep.now) settings h c.args.moment c.args.caller c.args.item c.args.text.now c.in-Err.refusal e (rw c.in-Err.is at c.in_ok-on.ensures.value honest))
 
-pub returns-in-Err-next_number-clause-decided : goal.returns-in-Err-next_number-clause-decided
-returns-in-Err-next_number-clause-decided g c = λ honest settings h is e.
+pub returns-in-Err-next_number : goal.returns-in-Err-next_number
+returns-in-Err-next_number g c = refuses c.in_ok-count.ensures.faults
+    (looked c.in_ok-on.ensures.faults c.in_ok-on.ensures.read c.in_ok-count.ensures.read) (λ honest settings h is e.
     let on = rw c.in-Ok.is at c.in_ok-on.ensures.value (c.in_ok-count.ensures.read.honest honest) in
     ask_judged (g.K.Keep.content c.args.keep.now) settings h c.args.moment c.args.caller c.args.item c.args.text.now c.in-Ok.on.terms e on.1 on.2
-    ∙ sym (rw (counted g (goal.at.returns-in-Err-next_number-clause-decided g c).In_ok-count honest) at c.in-Err-next_number.ensures)
+    ∙ sym (rw (counted g (goal.at.returns-in-Err-next_number g c).In_ok-count honest) at c.in-Err-next_number.ensures))
 
-pub returns-in-Ok-next_number-clause-decided : goal.returns-in-Ok-next_number-clause-decided
-returns-in-Ok-next_number-clause-decided g c = λ honest settings h is e.
+pub returns-in-Ok-next_number : goal.returns-in-Ok-next_number
+returns-in-Ok-next_number g c = accepts c.in_ok-count.ensures.faults
+    (looked c.in_ok-on.ensures.faults c.in_ok-on.ensures.read c.in_ok-count.ensures.read)
+    (λ honest settings h is e.
     let on = rw c.in-Ok.is at c.in_ok-on.ensures.value (c.in_ok-count.ensures.read.honest honest) in
-    let next = rw (counted g (goal.at.returns-in-Ok-next_number-clause-decided g c).In_ok-count honest) at c.in-Ok-next_number.ensures in
+    let next = rw (counted g (goal.at.returns-in-Ok-next_number g c).In_ok-count honest) at c.in-Ok-next_number.ensures in
     ask_accepts (g.K.Keep.content c.args.keep.now) settings h c.args.moment c.args.caller c.args.item c.args.text.now c.in-Ok.on.terms c.in-Ok.on.member c.in-Ok-next_number.number c.args.text
-    is e refl on.0 next.0 on.1 on.2 next.1
-
-pub returns-in-Ok-next_number-clause-fits : goal.returns-in-Ok-next_number-clause-fits
-returns-in-Ok-next_number-clause-fits g c = λ honest rows change_rows.
+    is e refl on.0 next.0 on.1 on.2 next.1)
+    (λ honest rows change_rows.
     let on = rw c.in-Ok.is at c.in_ok-on.ensures.value (c.in_ok-count.ensures.read.honest honest) in
-    let next = rw (counted g (goal.at.returns-in-Ok-next_number-clause-fits g c).In_ok-count honest) at c.in-Ok-next_number.ensures in
+    let next = rw (counted g (goal.at.returns-in-Ok-next_number g c).In_ok-count honest) at c.in-Ok-next_number.ensures in
     ask_fits (g.K.Keep.content c.args.keep.now) c.args.moment c.args.caller c.args.item c.args.text.now c.in-Ok.on.terms c.in-Ok.on.member c.in-Ok-next_number.number c.args.text
-    refl on.0 next.0 on.1 on.2 next.1
-
-pub returns-in-Ok-next_number-clause-own : goal.returns-in-Ok-next_number-clause-own
-returns-in-Ok-next_number-clause-own g c = λ honest.
+    refl on.0 next.0 on.1 on.2 next.1)
+    (λ honest.
     let on = rw c.in-Ok.is at c.in_ok-on.ensures.value (c.in_ok-count.ensures.read.honest honest) in
-    record { same_command = rw (row_there (g.K.Keep.content c.args.keep.now) c.args.item c.in-Ok.on.terms on.1).numbered refl; same_caller = on.0; same_moment = tt }
+    record { same_command = rw (row_there (g.K.Keep.content c.args.keep.now) c.args.item c.in-Ok.on.terms on.1).numbered refl; same_caller = on.0; same_moment = tt })

@@ -1,5 +1,7 @@
-use Rattle.std.proofs.Common.{◌≡◌, refl, ◌∙◌, sym}
+use Rattle.std.proofs.Common.{rules, arith, ◌≡◌, refl, ◌∙◌, sym}
+use Rattle.std.proofs.lemmas.Grind.{common_steps}
 use Rattle.house_rows.specs.Found.{is_given}
+use Rattle.house.proofs.Decides.{accepts, looked, refuses}
 use Rattle.house.proofs.NewFeedback.{feedback_accepts, feedback_fits, feedback_judged, feedback_refused}
 use Rattle.house.proofs.OnItems.{row_there}
 use Rattle.house.proofs.Unchanged.{still_there}
@@ -12,35 +14,45 @@ given g c honest =
     rw (still_there c.in_ok-on.field-0 g.K.Keep.content g.K.Keep.is_failed g.K.Keep.is_honest g.K.Keep.may_leave c.args.keep.now c.on_item.new.keep
     c.in_ok-on.ensures.faults c.in_ok-on.ensures.read (c.in_ok-is_given.ensures.read.honest honest)) at (c.in_ok-is_given.ensures.value honest)
 
-pub returns-in-Err-clause-decided : goal.returns-in-Err-clause-decided
-returns-in-Err-clause-decided g c = λ honest settings h is e.
-    feedback_refused (g.K.Keep.content c.args.keep.now) settings h c.args.moment c.args.caller c.args.item c.args.rating c.args.text.now c.in-Err.refusal e (rw c.in-Err.is at c.in_ok-on.ensures.value honest)
+pub returns-in-Err : goal.returns-in-Err
+returns-in-Err g c = refuses c.in_ok-on.ensures.faults c.in_ok-on.ensures.read (λ honest settings h is e.
+    feedback_refused (g.K.Keep.content c.args.keep.now) settings h c.args.moment c.args.caller c.args.item c.args.rating c.args.text.now c.in-Err.refusal e (rw c.in-Err.is at c.in_ok-on.ensures.value honest))
 
-pub returns-in-Err-taken_rating-clause-decided : goal.returns-in-Err-taken_rating-clause-decided
-returns-in-Err-taken_rating-clause-decided g c = λ honest settings h is e.
+pub returns-in-Err-taken_rating : goal.returns-in-Err-taken_rating
+returns-in-Err-taken_rating g c = refuses c.in_ok-is_given.ensures.faults
+    (looked c.in_ok-on.ensures.faults c.in_ok-on.ensures.read c.in_ok-is_given.ensures.read) (λ honest settings h is e.
     let on = rw c.in-Ok.is at c.in_ok-on.ensures.value (c.in_ok-is_given.ensures.read.honest honest) in
     feedback_judged (g.K.Keep.content c.args.keep.now) settings h c.args.moment c.args.caller c.args.item c.args.rating c.args.text.now c.in-Ok.on.terms e on.1 on.2
-    ∙ sym (rw (given g (goal.at.returns-in-Err-taken_rating-clause-decided g c).In_ok-is_given honest) at c.in-Err-taken_rating.ensures)
+    ∙ sym (rw (given g (goal.at.returns-in-Err-taken_rating g c).In_ok-is_given honest) at c.in-Err-taken_rating.ensures))
 
-pub returns-in-Ok-taken_rating-clause-decided : goal.returns-in-Ok-taken_rating-clause-decided
-returns-in-Ok-taken_rating-clause-decided g c = λ honest settings h is e.
+pub returns-in-Ok-taken_rating : goal.returns-in-Ok-taken_rating
+returns-in-Ok-taken_rating g c = accepts c.in_ok-is_given.ensures.faults
+    (looked c.in_ok-on.ensures.faults c.in_ok-on.ensures.read c.in_ok-is_given.ensures.read)
+    (λ honest settings h is e.
     let on = rw c.in-Ok.is at c.in_ok-on.ensures.value (c.in_ok-is_given.ensures.read.honest honest) in
-    let taken = rw (given g (goal.at.returns-in-Ok-taken_rating-clause-decided g c).In_ok-is_given honest) at c.in-Ok-taken_rating.ensures in
+    let taken = rw (given g (goal.at.returns-in-Ok-taken_rating g c).In_ok-is_given honest) at c.in-Ok-taken_rating.ensures in
     feedback_accepts (g.K.Keep.content c.args.keep.now) settings h c.args.moment c.args.caller c.args.item c.args.rating c.args.text.now c.in-Ok.on.terms c.in-Ok.on.member c.other_party.result c.in-Ok-taken_rating.rating c.args.text
-    e refl on.0 c.other_party.ensures taken.0 on.1 on.2 taken.1
-
-pub returns-in-Ok-taken_rating-clause-fits : goal.returns-in-Ok-taken_rating-clause-fits
-returns-in-Ok-taken_rating-clause-fits g c = λ honest rows change_rows.
+    e refl on.0 c.other_party.ensures taken.0 on.1 on.2 taken.1)
+    (λ honest rows change_rows.
     let on = rw c.in-Ok.is at c.in_ok-on.ensures.value (c.in_ok-is_given.ensures.read.honest honest) in
-    let taken = rw (given g (goal.at.returns-in-Ok-taken_rating-clause-fits g c).In_ok-is_given honest) at c.in-Ok-taken_rating.ensures in
+    let taken = rw (given g (goal.at.returns-in-Ok-taken_rating g c).In_ok-is_given honest) at c.in-Ok-taken_rating.ensures in
     feedback_fits (g.K.Keep.content c.args.keep.now) c.args.moment c.args.caller c.args.item c.args.rating c.args.text.now c.in-Ok.on.terms c.in-Ok.on.member c.other_party.result c.args.text
-    refl on.0 c.other_party.ensures on.1 on.2 taken.1
-
-pub returns-in-Ok-taken_rating-clause-own : goal.returns-in-Ok-taken_rating-clause-own
-returns-in-Ok-taken_rating-clause-own g c = λ honest.
+    refl on.0 c.other_party.ensures on.1 on.2 taken.1)
+    (λ honest.
     let on = rw c.in-Ok.is at c.in_ok-on.ensures.value (c.in_ok-is_given.ensures.read.honest honest) in
     record {
       same_command = rw ((row_there (g.K.Keep.content c.args.keep.now) c.args.item c.in-Ok.on.terms on.1).numbered, c.in-Ok-taken_rating.ensures.0) refl;
       same_caller = on.0;
       same_moment = refl;
-    }
+    })
+
+pub returns-in_err-is_given : goal.returns-in_err-is_given
+returns-in_err-is_given g c = record {
+  decided = search rules;
+  fits = search rules;
+  sound = search rules;
+  own = search rules;
+  faults = search rules;
+  damaged = grind (arith, common_steps);
+  read = looked c.in_ok-on.ensures.faults c.in_ok-on.ensures.read c.in_err-is_given.ensures.read;
+}

@@ -1,31 +1,29 @@
 use Rattle.std.proofs.Common.{refl, ◌∙◌, ap, sym}
 use Rattle.house_rows.specs.declared.command.Command.TheVariants.{Settle}
 use Rattle.house_rows.specs.Verdict.{settlement_rules}
+use Rattle.house.proofs.Decides.{accepts, refuses}
 use Rattle.house.proofs.Settlements.{settle_accepts, settle_fits, settle_refusal, settle_unnamed}
 use Rattle.house.proofs.OnItems.{row_there}
 use Rattle.house.proofs.settlement.settle.Goals as goal
 
-pub returns-in-Err-clause-decided : goal.returns-in-Err-clause-decided
-returns-in-Err-clause-decided g c = λ honest settings h is e.
+pub returns-in-Err : goal.returns-in-Err
+returns-in-Err g c = refuses c.in_ok-terms.ensures.answers.faults c.in_ok-terms.ensures.answers.read (λ honest settings h is e.
     settle_unnamed (g.K.Keep.content c.args.keep.now) settings h c.args.moment c.args.caller c.args.item c.in-Err.refusal e
-    (rw c.in-Err.is at (c.in_ok-terms.ensures.value honest) settlement_rules)
+    (rw c.in-Err.is at (c.in_ok-terms.ensures.answers.value honest) settlement_rules))
 
-pub returns-in-Some-clause-decided : goal.returns-in-Some-clause-decided
-returns-in-Some-clause-decided g c = λ honest settings h is e.
+pub returns-in-Some : goal.returns-in-Some
+returns-in-Some g c = refuses c.in_ok-terms.ensures.answers.faults c.in_ok-terms.ensures.answers.read (λ honest settings h is e.
     settle_refusal (g.K.Keep.content c.args.keep.now) settings h c.args.moment c.args.caller c.args.item c.in-Ok.terms c.in-Some.refusal e
-    (rw c.in-Ok.is at (c.in_ok-terms.ensures.value honest)) (sym c.in-Some.is ∙ c.settlement_refused.ensures)
+    (rw c.in-Ok.is at (c.in_ok-terms.ensures.answers.value honest)) (sym c.in-Some.is ∙ c.settlement_refused.ensures))
 
-pub returns-in-None-clause-decided : goal.returns-in-None-clause-decided
-returns-in-None-clause-decided g c = λ honest settings h is e.
+pub returns-in-None : goal.returns-in-None
+returns-in-None g c = accepts c.in_ok-terms.ensures.answers.faults c.in_ok-terms.ensures.answers.read
+    (λ honest settings h is e.
     settle_accepts (g.K.Keep.content c.args.keep.now) settings h c.args.moment c.args.caller c.args.item c.in-Ok.terms e
-    (rw c.in-Ok.is at (c.in_ok-terms.ensures.value honest)) (sym c.in-None.is ∙ c.settlement_refused.ensures)
-
-pub returns-in-None-clause-fits : goal.returns-in-None-clause-fits
-returns-in-None-clause-fits g c = λ honest rows change_rows.
+    (rw c.in-Ok.is at (c.in_ok-terms.ensures.answers.value honest)) (sym c.in-None.is ∙ c.settlement_refused.ensures))
+    (λ honest rows change_rows.
     settle_fits (g.K.Keep.content c.args.keep.now) c.args.moment c.args.caller c.args.item c.in-Ok.terms
-    (rw c.in-Ok.is at (c.in_ok-terms.ensures.value honest)) (sym c.in-None.is ∙ c.settlement_refused.ensures)
-
-pub returns-in-None-clause-own : goal.returns-in-None-clause-own
-returns-in-None-clause-own g c = λ honest.
-    let there = rw c.in-Ok.is at (c.in_ok-terms.ensures.value honest) in
-    record { same_command = ap Settle (row_there (g.K.Keep.content c.args.keep.now) c.args.item c.in-Ok.terms there.found).numbered; same_caller = tt; same_moment = refl }
+    (rw c.in-Ok.is at (c.in_ok-terms.ensures.answers.value honest)) (sym c.in-None.is ∙ c.settlement_refused.ensures))
+    (λ honest.
+    let there = rw c.in-Ok.is at (c.in_ok-terms.ensures.answers.value honest) in
+    record { same_command = ap Settle (row_there (g.K.Keep.content c.args.keep.now) c.args.item c.in-Ok.terms there.found).numbered; same_caller = tt; same_moment = refl })

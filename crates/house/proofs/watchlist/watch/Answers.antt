@@ -3,6 +3,7 @@ use Rattle.std.specs.Prelude.{◌||◌, nat_lt}
 use Rattle.house_rows.specs.declared.command.Command.TheVariants.{Watch}
 use Rattle.house_rows.specs.Found.{is_watched, watch_count}
 use Rattle.house_rows.specs.Limits.{most_watches}
+use Rattle.house.proofs.Decides.{accepts, looked, refuses}
 use Rattle.house.proofs.OnItems.{row_there}
 use Rattle.house.proofs.Unchanged.{still_there}
 use Rattle.house.proofs.Watched.{watch_accepts, watch_fits, watch_full, watch_refused}
@@ -16,29 +17,28 @@ room g c honest =
     rw (still_there c.in_ok-on.field-0 g.K.Keep.content g.K.Keep.is_failed g.K.Keep.is_honest g.K.Keep.may_leave c.args.keep.now c.on_item.new.keep
     c.in_ok-on.ensures.faults c.in_ok-on.ensures.read (c.in_ok-may_watch.ensures.read.honest honest)) at (c.in_ok-may_watch.ensures.value honest)
 
-pub returns-in-Err-clause-decided : goal.returns-in-Err-clause-decided
-returns-in-Err-clause-decided g c = λ honest settings h is e.
-    watch_refused (g.K.Keep.content c.args.keep.now) settings h c.args.moment c.args.caller c.args.item c.in-Err.refusal e (rw c.in-Err.is at c.in_ok-on.ensures.value honest)
+pub returns-in-Err : goal.returns-in-Err
+returns-in-Err g c = refuses c.in_ok-on.ensures.faults c.in_ok-on.ensures.read (λ honest settings h is e.
+    watch_refused (g.K.Keep.content c.args.keep.now) settings h c.args.moment c.args.caller c.args.item c.in-Err.refusal e (rw c.in-Err.is at c.in_ok-on.ensures.value honest))
 
-pub returns-then-not-branch-clause-decided : goal.returns-then-not-branch-clause-decided
-returns-then-not-branch-clause-decided g c = λ honest settings h is e.
+pub returns-then-not-branch : goal.returns-then-not-branch
+returns-then-not-branch g c = refuses c.in_ok-may_watch.ensures.faults
+    (looked c.in_ok-on.ensures.faults c.in_ok-on.ensures.read c.in_ok-may_watch.ensures.read) (λ honest settings h is e.
     let on = rw c.in-Ok.is at c.in_ok-on.ensures.value (c.in_ok-may_watch.ensures.read.honest honest) in
     watch_full (g.K.Keep.content c.args.keep.now) settings h c.args.moment c.args.caller c.args.item c.in-Ok.on.terms is e on.1 on.2
-    (sym (room g (goal.at.returns-then-not-branch-clause-decided g c).In_ok-may_watch honest) ∙ c.if-not-branch.true)
+    (sym (room g (goal.at.returns-then-not-branch g c).In_ok-may_watch honest) ∙ c.if-not-branch.true))
 
-pub returns-clause-decided : goal.returns-clause-decided
-returns-clause-decided g c = λ honest settings h is e.
+pub returns : goal.returns
+returns g c = accepts c.in_ok-may_watch.ensures.faults
+    (looked c.in_ok-on.ensures.faults c.in_ok-on.ensures.read c.in_ok-may_watch.ensures.read)
+    (λ honest settings h is e.
     let on = rw c.in-Ok.is at c.in_ok-on.ensures.value (c.in_ok-may_watch.ensures.read.honest honest) in
     watch_accepts (g.K.Keep.content c.args.keep.now) settings h c.args.moment c.args.caller c.args.item c.in-Ok.on.terms c.in-Ok.on.member is e on.0 on.1 on.2
-    (sym (room g (goal.at.returns-clause-decided g c).In_ok-may_watch honest) ∙ c.if-not-branch.false)
-
-pub returns-clause-fits : goal.returns-clause-fits
-returns-clause-fits g c = λ honest rows few.
+    (sym (room g (goal.at.returns g c).In_ok-may_watch honest) ∙ c.if-not-branch.false))
+    (λ honest rows few.
     let on = rw c.in-Ok.is at c.in_ok-on.ensures.value (c.in_ok-may_watch.ensures.read.honest honest) in
     watch_fits (g.K.Keep.content c.args.keep.now) c.args.moment c.args.caller c.args.item c.in-Ok.on.terms c.in-Ok.on.member few on.0 on.1 on.2
-    (sym (room g (goal.at.returns-clause-fits g c).In_ok-may_watch honest) ∙ c.if-not-branch.false)
-
-pub returns-clause-own : goal.returns-clause-own
-returns-clause-own g c = λ honest.
+    (sym (room g (goal.at.returns g c).In_ok-may_watch honest) ∙ c.if-not-branch.false))
+    (λ honest.
     let on = rw c.in-Ok.is at c.in_ok-on.ensures.value (c.in_ok-may_watch.ensures.read.honest honest) in
-    record { same_command = ap Watch (row_there (g.K.Keep.content c.args.keep.now) c.args.item c.in-Ok.on.terms on.1).numbered; same_caller = on.0; same_moment = tt }
+    record { same_command = ap Watch (row_there (g.K.Keep.content c.args.keep.now) c.args.item c.in-Ok.on.terms on.1).numbered; same_caller = on.0; same_moment = tt })

@@ -7,7 +7,7 @@ use Rattle.house_rows.specs.declared.item.ItemShown.{ItemShown}
 use Rattle.house_rows.specs.Items.{items, items_shown}
 use Rattle.house_rows.specs.Questions.{published, questions, waiting}
 use Rattle.house_rows.specs.declared.message.Message.{Message}
-use Rattle.house_rows.specs.declared.message.Message.TheVariants.{Order}
+use Rattle.house_rows.specs.declared.message.Message.TheVariants.{Write}
 use Rattle.house_rows.specs.Runs.{next}
 use Rattle.house_rows.specs.Verdict.{verdict}
 use Rattle.house_rows.specs.Views.{Public}
@@ -19,7 +19,7 @@ second_price (a ∷ it ∷ its) = it.item.terms.price
 second_price _ = 0
 
 abbrev reserve_in : {F : Type 0} → Message F → ℕ
-reserve_in (Order moment caller (Listed category lot title text start buy_now end reserve)) = unwrap_or reserve 0
+reserve_in (Write moment caller (Listed category lot title text start buy_now end reserve)) = unwrap_or reserve 0
 reserve_in _ = 0
 
 pub returns-clause-twins : goal.returns-clause-twins

@@ -3,7 +3,7 @@ use Rattle.steps.specs.Table.{step_at}
 use Rattle.proxy.specs.Bids.{greatest, leader, price, second, top}
 use Rattle.house_rows.specs.declared.command.Command.TheVariants.{Bid}
 use Rattle.house_rows.specs.declared.item.ItemShown.{ItemShown}
-use Rattle.house_rows.specs.declared.message.Message.TheVariants.{Order, Read}
+use Rattle.house_rows.specs.declared.message.Message.TheVariants.{Write, Read}
 use Rattle.house_rows.specs.declared.query.Query.TheVariants as query
 use Rattle.house_rows.specs.Items.{items, items_shown}
 use Rattle.house_rows.specs.Runs.{next}
@@ -28,8 +28,8 @@ first_count (it ∷ its) = it.item.terms.count
 pub returns-clause-covered : goal.returns-clause-covered
 unfolding next verdict items items_shown greatest leader price second top step_at
 returns-clause-covered g c = record {
-  before = setup_messages ++ Order 1001 2 (Bid 1 1000) ∷ [];
-  here = Order 1002 3 (Bid 1 3000);
+  before = setup_messages ++ Write 1001 2 (Bid 1 1000) ∷ [];
+  here = Write 1002 3 (Bid 1 3000);
   later = Read 2 (query.Item 1) ∷ [];
   parts = refl;
   placed = refl;
@@ -77,8 +77,8 @@ returns-clause-leads g c = λ twin.
 pub returns-clause-met : goal.returns-clause-met
 unfolding next verdict items items_shown greatest leader price second top step_at
 returns-clause-met g c = record {
-  before = setup_messages ++ Order 1000 1 (lists_reserved 900) ∷ [];
-  here = Order 1001 2 (Bid 2 900);
+  before = setup_messages ++ Write 1000 1 (lists_reserved 900) ∷ [];
+  here = Write 1001 2 (Bid 2 900);
   later = Read 3 (query.Item 2) ∷ [];
   parts = refl;
   placed = refl;

@@ -4,7 +4,7 @@ use Rattle.proxy.specs.Bids.{greatest, leader, price, second, top}
 use Rattle.house_rows.specs.declared.command.Command.TheVariants.{Bid}
 use Rattle.house_rows.specs.declared.item.ItemShown.{ItemShown}
 use Rattle.house_rows.specs.declared.message.Message.{Message}
-use Rattle.house_rows.specs.declared.message.Message.TheVariants.{Order}
+use Rattle.house_rows.specs.declared.message.Message.TheVariants.{Write}
 use Rattle.house_rows.specs.Items.{items, items_shown}
 use Rattle.house_rows.specs.Pages.{page_of}
 use Rattle.house_rows.specs.Questions.{published, questions, waiting}
@@ -19,7 +19,7 @@ first_count [] = 0
 first_count (it ∷ its) = it.item.terms.count
 
 abbrev amount_in : {F : Type 0} → Message F → ℕ
-amount_in (Order moment caller (Bid i maximum)) = maximum
+amount_in (Write moment caller (Bid i maximum)) = maximum
 amount_in _ = 0
 
 abbrev amounts : {F : Type 0} → List (Message F) → ℕ

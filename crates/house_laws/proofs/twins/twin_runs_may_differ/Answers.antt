@@ -7,7 +7,7 @@ use Rattle.house_rows.specs.Items.{items, items_shown}
 use Rattle.house_rows.specs.Pages.{page_of}
 use Rattle.house_rows.specs.Questions.{published, questions, waiting}
 use Rattle.house_rows.specs.declared.message.Message.{Message}
-use Rattle.house_rows.specs.declared.message.Message.TheVariants.{Order}
+use Rattle.house_rows.specs.declared.message.Message.TheVariants.{Write}
 use Rattle.house_rows.specs.Runs.{next, reply}
 use Rattle.house_rows.specs.Verdict.{verdict}
 use Rattle.house_rows.specs.Views.{Public}
@@ -18,7 +18,7 @@ first_price [] = 0
 first_price (it ∷ its) = it.item.terms.price
 
 abbrev amount_in : {F : Type 0} → Message F → ℕ
-amount_in (Order moment caller (Bid i maximum)) = maximum
+amount_in (Write moment caller (Bid i maximum)) = maximum
 amount_in _ = 0
 
 abbrev amounts : {F : Type 0} → List (Message F) → ℕ

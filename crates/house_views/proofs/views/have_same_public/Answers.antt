@@ -2,9 +2,15 @@ use Rattle.std.proofs.lemmas.Result.{IfOk-weaker}
 use Rattle.house_views.proofs.Public.{public_reported}
 use Rattle.house_views.proofs.views.have_same_public.Goals as goal
 
-pub returns-clause-report : goal.returns-clause-report
-returns-clause-report g c = λ left right settings h k e d.
-    let content = g.K.Keep.content in
-    IfOk-weaker c.have_same_rows.result _ _
-    (λ same. public_reported settings h k (content c.args.left.now) (content c.args.right.now) same e d)
-    (c.have_same_rows.ensures.report left right)
+pub returns : goal.returns
+returns g c = record {
+  report = λ left right.
+      let content = g.K.Keep.content in
+      IfOk-weaker c.have_same_rows.result _ _
+      (λ same alike settings h k e d.
+      public_reported settings h k (content c.args.left.now) (content c.args.right.now) same e d alike)
+      (c.have_same_rows.ensures.report left right);
+  faults = c.have_same_rows.ensures.faults;
+  left = c.have_same_rows.ensures.left;
+  right = c.have_same_rows.ensures.right;
+}

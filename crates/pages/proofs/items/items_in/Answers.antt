@@ -1,14 +1,13 @@
-use Rattle.std.proofs.Common.{rules, ◌≡◌, ◌∙◌, false, refl, ap, Err}
-use Rattle.std.proofs.lemmas.Result.{err_from_is_err_and}
-use Rattle.pages.proofs.Undamaged.{handed_on}
+use Rattle.std.proofs.Common.{rules}
+use Rattle.pages.proofs.Undamaged.{by_second}
 use Rattle.pages.proofs.items.items_in.Goals as goal
 
--- the second read finds the tables that the first did
-pub returns-in_err-items-clause-damaged : goal.returns-in_err-items-clause-damaged
-returns-in_err-items-clause-damaged g c = λ honest fit.
-    let going : g.K.Keep.is_failed c.has_category.new.self ≡ false = search rules in
-    let before = c.in_err-items.ensures.read.honest honest in
-    let same : g.K.Keep.content c.has_category.new.self ≡ g.K.Keep.content c.args.keep.now = c.in_ok-has_category.ensures.read.same before going in
-    let exit = err_from_is_err_and c.from_residual-in_err-items.result c.from_residual-in_err-items.ensures.1 in
-    handed_on (Err c.in_err-items.field-0.0) c.from_residual-in_err-items.result c.in_err-items.field-0.0 refl (exit.1 ∙ ap Err exit.2)
-    (c.in_err-items.ensures.damaged honest (rw same fit.1))
+pub returns-in_err-items : goal.returns-in_err-items
+returns-in_err-items g c = record {
+  page = search rules;
+  fits = search rules;
+  faults = search rules;
+  damaged = λ honest fit. by_second g.K.Keep c.in_err-items.field-0.0 _ c.in_ok-has_category.ensures.read (search rules)
+      c.in_err-items.ensures.read c.from_residual-in_err-items.ensures.1 honest (λ same. c.in_err-items.ensures.damaged honest (rw same fit.1));
+  read = search rules;
+}

@@ -1,6 +1,6 @@
 use Rattle.site_results.proofs.Bids.{bid_reported}
 use Rattle.site_results.proofs.Numbers.{add_reported, list_reported, register_reported, set_reported}
-use Rattle.site_results.proofs.Sales.{buy_reported, close_reported, settle_reported, settled_by_tables}
+use Rattle.site_results.proofs.Sales.{buy_reported, close_reported, settle_reported}
 use Rattle.site_results.proofs.Talk.{ask_reported, feedback_reported}
 use Rattle.site_results.proofs.results.tell.Goals as goal
 
@@ -38,11 +38,6 @@ pub returns-in-Settle-clause-report : goal.returns-in-Settle-clause-report
 returns-in-Settle-clause-report g c = λ honest settings h valid e moment caller command is own.
     settle_reported (g.K.Keep.content c.args.keep.now) settings h moment caller command c.tell_settlement.result c.in-Settle.moment c.in-Settle.item e
     (rw c.in-Settle.is at is) (rw c.in-Settle.is at own) (c.tell_settlement.ensures.value honest)
-
-pub returns-in-Settle-clause-by_tables : goal.returns-in-Settle-clause-by_tables
-returns-in-Settle-clause-by_tables g c = λ honest.
-    rw c.in-Settle.is (settled_by_tables (g.K.Keep.content c.args.keep.now) c.in-Settle.moment c.in-Settle.item
-    c.tell_settlement.result (c.tell_settlement.ensures.value honest))
 
 pub returns-in-Ask-clause-report : goal.returns-in-Ask-clause-report
 returns-in-Ask-clause-report g c = λ honest settings h valid e moment caller command is own.

@@ -1,6 +1,6 @@
 use Rattle.std.proofs.Common.{refl}
 use Rattle.list_items.proofs.Closed.{all_after, first_taken, popped}
-use Rattle.list_items.proofs.closure.next_due.Goals as goal
+use Rattle.list_items.proofs.close.next_due.Goals as goal
 
 pub returns-then-end-moment-clause-none : goal.returns-then-end-moment-clause-none
 returns-then-end-moment-clause-none c = λ none.
