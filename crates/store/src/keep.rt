@@ -142,7 +142,7 @@ impl<S: Alter> Keep for SqlKeep<S> {
         Ok(self.counts)
     }
 
-    #[tactic(auto, using(store_rows::proofs::Small::no_member), unfolding(store_rows::specs::Tables::tables_in))]
+    #[tactic(auto, using(store_house::proofs::PeopleSound::member_fits, store_rows::proofs::Small::no_member), unfolding(store_rows::specs::Tables::tables_in))]
     fn member(&mut self, member: u64) -> Result<Option<Member>, KeepFault> {
         self.serves()?;
         let Ok(member) = u32::try_from(member) else {
@@ -151,7 +151,7 @@ impl<S: Alter> Keep for SqlKeep<S> {
         report!(self, member_at(&mut self.conn, member))
     }
 
-    #[tactic(auto, using(store_rows::proofs::Small::no_member), unfolding(store_rows::specs::Tables::tables_in))]
+    #[tactic(auto, using(store_house::proofs::PeopleSound::member_fits, store_rows::proofs::Small::no_member), unfolding(store_rows::specs::Tables::tables_in))]
     fn has_member(&mut self, member: u64) -> Result<bool, KeepFault> {
         self.serves()?;
         let Ok(member) = u32::try_from(member) else {
@@ -160,13 +160,13 @@ impl<S: Alter> Keep for SqlKeep<S> {
         report!(self, has_member(&mut self.conn, member))
     }
 
-    #[tactic(auto, unfolding(store_rows::specs::Tables::tables_in))]
+    #[tactic(auto, using(store_house::proofs::PeopleSound::member_fits), unfolding(store_rows::specs::Tables::tables_in))]
     fn member_named(&mut self, name: &str) -> Result<Option<Member>, KeepFault> {
         self.serves()?;
         report!(self, member_named(&mut self.conn, name))
     }
 
-    #[tactic(auto, using(store_rows::proofs::Small::no_category), unfolding(store_rows::specs::Tables::tables_in))]
+    #[tactic(auto, using(store_house::proofs::PeopleSound::category_fits, store_rows::proofs::Small::no_category), unfolding(store_rows::specs::Tables::tables_in))]
     fn category(&mut self, category: u64) -> Result<Option<Category>, KeepFault> {
         self.serves()?;
         let Ok(category) = u32::try_from(category) else {
@@ -175,7 +175,7 @@ impl<S: Alter> Keep for SqlKeep<S> {
         report!(self, category_at(&mut self.conn, category))
     }
 
-    #[tactic(auto, using(store_rows::proofs::Small::no_category), unfolding(store_rows::specs::Tables::tables_in))]
+    #[tactic(auto, using(store_house::proofs::PeopleSound::category_fits, store_rows::proofs::Small::no_category), unfolding(store_rows::specs::Tables::tables_in))]
     fn has_category(&mut self, category: u64) -> Result<bool, KeepFault> {
         self.serves()?;
         let Ok(category) = u32::try_from(category) else {
@@ -184,7 +184,7 @@ impl<S: Alter> Keep for SqlKeep<S> {
         report!(self, has_category(&mut self.conn, category))
     }
 
-    #[tactic(auto, unfolding(store_rows::specs::Tables::tables_in))]
+    #[tactic(auto, using(store_house::proofs::PeopleSound::category_fits), unfolding(store_rows::specs::Tables::tables_in))]
     fn category_named(&mut self, name: &str) -> Result<Option<Category>, KeepFault> {
         self.serves()?;
         report!(self, category_named(&mut self.conn, name))
@@ -287,7 +287,7 @@ impl<S: Alter> Keep for SqlKeep<S> {
         report!(self, ask_count(&mut self.conn, item, asker))
     }
 
-    #[tactic(auto, using(store_rows::proofs::Sound::questions_fit, crate::proofs::Absent::no_question_on, crate::proofs::Absent::no_question_by, crate::proofs::Absent::no_question_numbered), unfolding(store_rows::specs::Tables::tables_in))]
+    #[tactic(auto, using(store_talk::proofs::Sound::question_sound, crate::proofs::Absent::no_question_on, crate::proofs::Absent::no_question_by, crate::proofs::Absent::no_question_numbered), unfolding(store_rows::specs::Tables::tables_in))]
     fn question(
         &mut self,
         item: u64,
@@ -307,7 +307,7 @@ impl<S: Alter> Keep for SqlKeep<S> {
         report!(self, question_at(&mut self.conn, item, asker, number))
     }
 
-    #[tactic(auto, using(store_rows::proofs::Sound::feedback_fits, crate::proofs::Absent::no_giver, crate::proofs::Absent::no_given), unfolding(store_rows::specs::Tables::tables_in))]
+    #[tactic(auto, using(crate::proofs::Absent::no_giver, crate::proofs::Absent::no_given), unfolding(store_rows::specs::Tables::tables_in))]
     fn given(&mut self, item: u64, giver: u64) -> Result<bool, KeepFault> {
         self.serves()?;
         let Ok(item) = u32::try_from(item) else {
@@ -384,7 +384,7 @@ impl<S: Alter> Keep for SqlKeep<S> {
         )
     }
 
-    #[tactic(auto, using(crate::proofs::AbsentLists::no_published, store_rows::proofs::Sound::questions_fit))]
+    #[tactic(auto, using(crate::proofs::AbsentLists::no_published))]
     fn published(&mut self, item: u64, from: u64) -> Result<Vec<Question>, KeepFault> {
         self.serves()?;
         let Ok(item) = u32::try_from(item) else {
@@ -393,7 +393,7 @@ impl<S: Alter> Keep for SqlKeep<S> {
         report!(self, published_on(self.alloc, &mut self.conn, item, from))
     }
 
-    #[tactic(auto, using(crate::proofs::AbsentLists::no_own_questions, store_rows::proofs::Sound::questions_fit))]
+    #[tactic(auto, using(crate::proofs::AbsentLists::no_own_questions))]
     fn questions_of(&mut self, member: u64, from: u64) -> Result<Vec<Question>, KeepFault> {
         self.serves()?;
         let Ok(member) = u32::try_from(member) else {
@@ -402,7 +402,7 @@ impl<S: Alter> Keep for SqlKeep<S> {
         report!(self, questions_of(self.alloc, &mut self.conn, member, from))
     }
 
-    #[tactic(auto, using(crate::proofs::AbsentLists::no_feedback, store_rows::proofs::Sound::feedback_fits))]
+    #[tactic(auto, using(crate::proofs::AbsentLists::no_feedback))]
     fn feedback_for(&mut self, member: u64, from: u64) -> Result<Vec<Feedback>, KeepFault> {
         self.serves()?;
         let Ok(member) = u32::try_from(member) else {
@@ -429,7 +429,7 @@ impl<S: Alter> Keep for SqlKeep<S> {
         report!(self, all_items(self.alloc, &mut self.conn, &self.rules))
     }
 
-    #[tactic(auto, using(store_rows::proofs::Sound::questions_fit), unfolding(store_rows::specs::Tables::tables_in))]
+    #[tactic(auto, unfolding(store_rows::specs::Tables::tables_in))]
     fn all_published(&mut self) -> Result<Vec<Question>, KeepFault> {
         self.serves()?;
         report!(self, all_published(self.alloc, &mut self.conn))

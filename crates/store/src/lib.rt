@@ -16,7 +16,7 @@
 mod after;
 mod change_rows;
 mod changes;
-mod closure;
+mod close;
 mod copied_files;
 mod copies;
 mod files;

@@ -1,7 +1,6 @@
 -- Items that are looked at in turn, until fifty are found; and which rows each needs.
 use Rattle.std.proofs.Common.{◌≡◌, ◌≤◌, ◌<◌, ◌+◌, ℕ, List, [], ◌∷◌, ◌++◌, append_assoc, flat_map, length, take, ap, sym, subst, ◌∙◌, arith, inl, inr, refl}
 use Rattle.std.specs.Prelude.{◌^◌, nat_lt}
-use Rattle.std.specs.List.{AllByRecursion}
 use Rattle.std.proofs.lemmas.Bool.Decides.{nat_tests}
 use Rattle.std.proofs.lemmas.List.{append-nil, length-append, length-take, take_all, take-append-le}
 use Rattle.std.proofs.lemmas.List.Concat.{flat_map-append}
@@ -19,6 +18,7 @@ use Rattle.list_rows.proofs.Growing.{front_twice}
 use Rattle.store_rows.specs.ItemRows.{items_in}
 use Rattle.store_rows.specs.Sorted.{sorted_bids}
 use Rattle.store_rows.specs.Tables.{tables_in}
+use Rattle.store_bids.specs.Listed.{OwnBidsFit}
 use Rattle.store_bids.specs.OwnBids.{own_found}
 use Rattle.house_rows.specs.Reached.{FitsSoFar}
 use Rattle.store_bids.specs.Reached.{FitInTurn}
@@ -89,5 +89,5 @@ all_fit editions t member from sound = record {
   };
 }
 
-pub bids_fit_here : (t : Tables) (member item : ℕ) → AreSound t → AllByRecursion (λ (b : BidRow). b.bid.member ≡ member → b.item ≡ item → BidRowFits b) t.bids
-bids_fit_here t member item sound = all_weaker BidRowFits (λ (b : BidRow). b.bid.member ≡ member → b.item ≡ item → BidRowFits b) (λ b fit mine same. fit) t.bids sound.bids
+pub own_sound : (t : Tables) (member item : ℕ) → AreSound t → OwnBidsFit member item t.bids
+own_sound t member item sound = all_weaker BidRowFits (λ (b : BidRow). b.bid.member ≡ member → b.item ≡ item → BidRowFits b) (λ b fit mine same. fit) t.bids sound.bids

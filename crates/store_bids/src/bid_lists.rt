@@ -1,19 +1,17 @@
-//! What a member has bid, item by item.
-ghost use Rattle.std.specs.Prelude.{◌≡◌, ◌≤◌, ◌+◌, ◌++◌, length, filter, flat_map, nat_lt, option_map, take, IfOk, IfSome, OnOk, IsErrOf};
+//! The list of a member's bids, an item a row.
+ghost use Rattle.std.specs.Prelude.{◌≡◌, ◌≤◌, ◌+◌, ◌++◌, length, filter, flat_map, nat_lt, option_map, take, IfOk, IfSome, OnOk};
 ghost use Rattle.std.specs.List.{AllByRecursion};
-ghost use Rattle.sqlite.specs.State.{HasCleanDisk};
 ghost use Rattle.sqlite.specs.Held.{state};
 ghost use Rattle.house_rows.specs.Fits.{OwnBidFits, TermsFit};
 ghost use Rattle.house_rows.specs.Limits.{most_shown};
-ghost use Rattle.house_rows.specs.declared.fault.KeepFault.TheVariants.{Damaged};
 ghost use Rattle.store_rows.specs.House.{ServesBy};
 ghost use Rattle.store_rows.specs.Tables.{tables_in};
 ghost use Rattle.store_rows.specs.Joined.{found_of};
 ghost use Rattle.store_bids.specs.OwnBids.{bid_reported, own_found};
 ghost use Rattle.house_rows.specs.Reached.{FitsAt};
 ghost use Rattle.store_bids.specs.Reached.{FitInTurn};
-ghost use Rattle.store_items.specs.ConsistentRows.{ItemIsConsistent};
-ghost use Rattle.store_rows.specs.Frames.{OnlyReads};
+ghost use Rattle.store_rows.specs.Frames.{Finds};
+ghost use Rattle.store_bids.specs.Listed.{BecomesOwnBids, IsOwnBid};
 
 use crate::own::own_best;
 use house_rows::{KeepFault, MOST_SHOWN, OwnBest, OwnBid, Terms};
@@ -52,17 +50,10 @@ fn own_bid_at<S: Alter>(
     member: u32,
 ) -> Result<Option<OwnBid>, KeepFault>
     requires { ServesBy rules.now.reserves (state S.Store conn.old) }
-    ensures value { HasCleanDisk (state S.Store conn.new)
-        → IfOk result (λ bid. found_of bid ≡ own_found
-        (tables_in (state S.Store conn.old).now.trees) member item) }
+    ensures finds { Finds S.Store conn.old conn.new result
+        (IsOwnBid rules.now.editions member item)
+        (λ db. FitsAt rules.now.editions (tables_in db) member item) }
     ensures fits { IfOk result (λ bid. IfSome bid OwnBidFits) }
-    ensures is_consistent { HasCleanDisk (state S.Store conn.new)
-        → IfOk result (λ bid. IfSome bid
-        (λ b. ItemIsConsistent rules.now.editions (state S.Store conn.old).now.trees b.item)) }
-    ensures here { HasCleanDisk (state S.Store conn.new)
-        → FitsAt rules.now.editions (tables_in (state S.Store conn.old).now.trees) member item
-        → ¬ (IsErrOf result Damaged) }
-    ensures read { OnlyReads (state S.Store conn.old) (state S.Store conn.new) result }
 {
     let terms = terms_at(conn, rules, item)?;
     let best = own_best(alloc, conn, item, member)?;
@@ -79,23 +70,13 @@ fn add_own_bid<S: Alter>(
     found: &mut Vec<OwnBid>,
 ) -> Result<(), KeepFault>
     requires { ServesBy rules.now.reserves (state S.Store conn.old) }
-    ensures value { HasCleanDisk (state S.Store conn.new)
-        → OnOk result (found.new.items ≡ found.old.items
-        ++ own_found (tables_in (state S.Store conn.old).now.trees) member item) }
+    ensures finds { Finds S.Store conn.old conn.new result
+        (λ db _. BecomesOwnBids rules.now.editions db found.old.items found.new.items
+        (found.old.items ++ own_found (tables_in db) member item))
+        (λ db. FitsAt rules.now.editions (tables_in db) member item) }
     ensures few { OnOk result (length found.new.items ≤ length found.old.items + 1) }
     ensures fits { AllByRecursion OwnBidFits found.old.items
         → OnOk result (AllByRecursion OwnBidFits found.new.items) }
-    ensures is_consistent { HasCleanDisk (state S.Store conn.new)
-        → AllByRecursion (λ b. ItemIsConsistent rules.now.editions
-        (state S.Store conn.old).now.trees b.item)
-        found.old.items
-        → OnOk result (AllByRecursion
-        (λ b. ItemIsConsistent rules.now.editions (state S.Store conn.old).now.trees b.item)
-        found.new.items) }
-    ensures here { HasCleanDisk (state S.Store conn.new)
-        → FitsAt rules.now.editions (tables_in (state S.Store conn.old).now.trees) member item
-        → ¬ (IsErrOf result Damaged) }
-    ensures read { OnlyReads (state S.Store conn.old) (state S.Store conn.new) result }
 {
     match own_bid_at(alloc, conn, rules, item, member)? {
         Some(bid) => push(found, bid),
@@ -114,24 +95,15 @@ pub(crate) fn add_own_bids<S: Alter>(
 ) -> Result<(), KeepFault>
     requires serves { ServesBy rules.now.reserves (state S.Store conn.old) }
     requires few { length found.old.items ≤ most_shown }
-    ensures value { HasCleanDisk (state S.Store conn.new)
-        → OnOk result (found.new.items ≡ take most_shown (found.old.items ++ flat_map
-        (own_found (tables_in (state S.Store conn.old).now.trees) member) numbers.now)) }
+    ensures finds { Finds S.Store conn.old conn.new result
+        (λ db _. BecomesOwnBids rules.now.editions db found.old.items found.new.items
+        (take most_shown (found.old.items
+        ++ flat_map (own_found (tables_in db) member) numbers.now)))
+        (λ db. FitInTurn rules.now.editions (tables_in db) member (length found.old.items)
+        numbers.now) }
     ensures few { OnOk result (length found.new.items ≤ most_shown) }
     ensures fits { AllByRecursion OwnBidFits found.old.items
         → OnOk result (AllByRecursion OwnBidFits found.new.items) }
-    ensures is_consistent { HasCleanDisk (state S.Store conn.new)
-        → AllByRecursion (λ b. ItemIsConsistent rules.now.editions
-        (state S.Store conn.old).now.trees b.item)
-        found.old.items
-        → OnOk result (AllByRecursion
-        (λ b. ItemIsConsistent rules.now.editions (state S.Store conn.old).now.trees b.item)
-        found.new.items) }
-    ensures reached { HasCleanDisk (state S.Store conn.new)
-        → FitInTurn rules.now.editions (tables_in (state S.Store conn.old).now.trees) member
-        (length found.old.items) numbers.now
-        → ¬ (IsErrOf result Damaged) }
-    ensures read { OnlyReads (state S.Store conn.old) (state S.Store conn.new) result }
 {
     for number in numbers {
         if found.len() >= MOST_SHOWN {

@@ -1,12 +1,10 @@
 //! The items on which a member has bid. Of its bids fifty are read at a time, and no more than a full
 //! list needs.
-ghost use Rattle.std.specs.Prelude.{◌≡◌, ◌≤◌, ◌<◌, ◌^◌, ◌++◌, ℕ, length, take, IfOk, OnOk, IsErrOf};
+ghost use Rattle.std.specs.Prelude.{◌≡◌, ◌≤◌, ◌<◌, ◌^◌, ℕ, length, take, IfOk, OnOk, IsErrOf};
 ghost use Rattle.std.specs.List.{AllByRecursion};
-ghost use Rattle.sqlite.specs.State.{HasCleanDisk};
 ghost use Rattle.sqlite.specs.Held.{state};
 ghost use Rattle.house_rows.specs.Fits.{OwnBidFits};
 ghost use Rattle.house_rows.specs.Found.{own_bids};
-ghost use Rattle.house_rows.specs.Keeping.{AreSoundBy};
 ghost use Rattle.house_rows.specs.Limits.{most_shown};
 ghost use Rattle.house_rows.specs.declared.fault.KeepFault.TheVariants.{Damaged};
 ghost use Rattle.store_rows.specs.House.{ServesBy};
@@ -14,8 +12,8 @@ ghost use Rattle.store_rows.specs.Tables.{tables_in};
 ghost use Rattle.store_bids.specs.OwnBids.{rest_after, found_from, numbers_from};
 ghost use Rattle.house_rows.specs.Reached.{FitsSoFar};
 ghost use Rattle.store_bids.specs.Reached.{FitFrom};
-ghost use Rattle.store_items.specs.ConsistentRows.{ItemIsConsistent};
-ghost use Rattle.store_rows.specs.Frames.{OnlyReads};
+ghost use Rattle.store_rows.specs.Frames.{Finds};
+ghost use Rattle.store_bids.specs.Listed.{AreOwnBids, GoesOnAt};
 
 use crate::bid_lists::add_own_bids;
 use crate::look_ups::{items_bid_on, no_item};
@@ -72,33 +70,15 @@ fn add_next_bids<S: Alter>(
 ) -> Result<u64, KeepFault>
     requires serves { ServesBy rules.now.reserves (state S.Store conn.old) }
     requires few { length found.old.items ≤ most_shown }
-    ensures value { HasCleanDisk (state S.Store conn.new)
-        → IfOk result (λ next. take most_shown
-        (found.new.items ++ found_from (state S.Store conn.old).now.trees member next)
-        ≡ take most_shown
-        (found.old.items ++ found_from (state S.Store conn.old).now.trees member from)) }
+    ensures finds { Finds S.Store conn.old conn.new result
+        (λ db next. GoesOnAt rules.now.editions member from found.old.items db next
+        found.new.items)
+        (λ db. FitFrom rules.now.editions db member (length found.old.items) from) }
     ensures few { OnOk result (length found.new.items ≤ most_shown) }
     ensures rises { IfOk result (λ next. from < next) }
     ensures top { IfOk result (λ next. next ≤ 2 ^ 32) }
     ensures fits { AllByRecursion OwnBidFits found.old.items
         → OnOk result (AllByRecursion OwnBidFits found.new.items) }
-    ensures is_consistent { HasCleanDisk (state S.Store conn.new)
-        → AllByRecursion (λ b. ItemIsConsistent rules.now.editions
-        (state S.Store conn.old).now.trees b.item)
-        found.old.items
-        → OnOk result (AllByRecursion
-        (λ b. ItemIsConsistent rules.now.editions (state S.Store conn.old).now.trees b.item)
-        found.new.items) }
-    ensures reached { HasCleanDisk (state S.Store conn.new)
-        → FitFrom rules.now.editions (state S.Store conn.old).now.trees member
-        (length found.old.items) from
-        → ¬ (IsErrOf result Damaged) }
-    ensures later { HasCleanDisk (state S.Store conn.new)
-        → FitFrom rules.now.editions (state S.Store conn.old).now.trees member
-        (length found.old.items) from
-        → IfOk result (λ next. FitFrom rules.now.editions (state S.Store conn.old).now.trees member
-        (length found.new.items) next) }
-    ensures read { OnlyReads (state S.Store conn.old) (state S.Store conn.new) result }
 {
     let items = items_bid_on(alloc, conn, member, from)?;
     let numbers = numbers_from(alloc, &items, u64::from(from))?;
@@ -115,17 +95,11 @@ fn own_bids_from<S: Alter>(
     from: u64,
 ) -> Result<Vec<OwnBid>, KeepFault>
     requires { ServesBy rules.now.reserves (state S.Store conn.old) }
-    ensures value { HasCleanDisk (state S.Store conn.new)
-        → IfOk result (λ found. found.items ≡ take most_shown
-        (found_from (state S.Store conn.old).now.trees member from)) }
+    ensures finds { Finds S.Store conn.old conn.new result
+        (λ db found. AreOwnBids rules.now.editions db found.items
+        (take most_shown (found_from db member from)))
+        (λ db. FitFrom rules.now.editions db member 0 from) }
     ensures fits { IfOk result (λ found. AllByRecursion OwnBidFits found.items) }
-    ensures is_consistent { HasCleanDisk (state S.Store conn.new)
-        → IfOk result (λ found. AllByRecursion
-        (λ b. ItemIsConsistent rules.now.editions (state S.Store conn.old).now.trees b.item) found.items) }
-    ensures reached { HasCleanDisk (state S.Store conn.new)
-        → FitFrom rules.now.editions (state S.Store conn.old).now.trees member 0 from
-        → ¬ (IsErrOf result Damaged) }
-    ensures read { OnlyReads (state S.Store conn.old) (state S.Store conn.new) result }
 {
     let mut found = Vec::new(alloc);
     let mut next = from;
@@ -146,20 +120,11 @@ pub fn own_bids<S: Alter>(
     from: u64,
 ) -> Result<Vec<OwnBid>, KeepFault>
     requires { ServesBy rules.now.reserves (state S.Store conn.old) }
-    ensures value { HasCleanDisk (state S.Store conn.new)
-        → IfOk result (λ found. found.items ≡ own_bids
-        (tables_in (state S.Store conn.old).now.trees) member from) }
+    ensures finds { Finds S.Store conn.old conn.new result
+        (λ db found. AreOwnBids rules.now.editions db found.items
+        (own_bids (tables_in db) member from))
+        (λ db. FitsSoFar rules.now.editions (tables_in db) member from) }
     ensures fits { IfOk result (λ found. AllByRecursion OwnBidFits found.items) }
-    ensures is_consistent { HasCleanDisk (state S.Store conn.new)
-        → IfOk result (λ found. AllByRecursion
-        (λ b. ItemIsConsistent rules.now.editions (state S.Store conn.old).now.trees b.item) found.items) }
-    ensures damaged { HasCleanDisk (state S.Store conn.new)
-        → AreSoundBy rules.now.editions (tables_in (state S.Store conn.old).now.trees)
-        → ¬ (IsErrOf result Damaged) }
-    ensures reached { HasCleanDisk (state S.Store conn.new)
-        → FitsSoFar rules.now.editions (tables_in (state S.Store conn.old).now.trees) member from
-        → ¬ (IsErrOf result Damaged) }
-    ensures read { OnlyReads (state S.Store conn.old) (state S.Store conn.new) result }
 {
     no_item(alloc, conn, "SELECT id FROM item WHERE id < 0 ORDER BY id")?;
     let found = own_bids_from(alloc, conn, rules, member, from)?;

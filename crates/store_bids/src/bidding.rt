@@ -1,14 +1,13 @@
 //! A bid.
-ghost use Rattle.std.specs.Prelude.{◌≡◌, ◌≢◌, ◌<◌, ◌^◌, ◌==◌, ◌&&◌, ℕ, true, false, is_some, OnOk, IsErrOf, IsTrue};
+ghost use Rattle.std.specs.Prelude.{◌≡◌, ◌≢◌, ◌<◌, ◌^◌, ◌==◌, ◌&&◌, true, false, is_some, OnOk, IsErrOf, IsTrue};
 ghost use Rattle.std.specs.List.{list_any};
 ghost use Rattle.sqlite.specs.State.{HasCleanDisk, Survives};
 ghost use Rattle.sqlite.specs.Held.{state};
 ghost use Rattle.proxy.specs.Kept.{opening_of};
 ghost use Rattle.proxy.specs.Rows.{is_standing};
-ghost use Rattle.proxy.specs.declared.bid.Bid.{Bid as TheBid};
 ghost use Rattle.house_rows.specs.Editions.{bands_in};
 ghost use Rattle.house_rows.specs.Tables.{band_tables};
-ghost use Rattle.house_rows.specs.Asks.{BidFits, ChangeFits, IsFree};
+ghost use Rattle.house_rows.specs.Asks.{ChangeFits, IsFree};
 ghost use Rattle.house_rows.specs.declared.change.Change.TheVariants as change;
 ghost use Rattle.house_rows.specs.declared.fault.KeepFault.TheVariants.{Damaged};
 ghost use Rattle.store_rows.specs.House.{IsBegun, IsHouse, KeepsCommitted, ServesBy, AddsBid};
@@ -17,8 +16,9 @@ ghost use Rattle.store_rows.specs.Rows.{reserves_in};
 ghost use Rattle.store_rows.specs.Tables.{Changes, IsNumbered, Rests, tables_in};
 ghost use Rattle.store_items.specs.ConsistentRows.{HasStandingItem, RowFitsAt};
 ghost use Rattle.store_items.specs.Sales.{StartsAt};
-ghost use Rattle.store_rows.specs.Frames.{OnlyReads, WritesMany, WritesOnce};
+ghost use Rattle.store_rows.specs.Frames.{Finds, WritesMany, WritesOnce};
 ghost use Rattle.store_rows.specs.Commits.{Commits};
+ghost use Rattle.store_bids.specs.Judged.{BeginsThere, BidFitsThere};
 
 use crate::look_ups::has_bid;
 use house_rows::KeepFault;
@@ -35,21 +35,12 @@ fn check_standing<S: Alter>(
     standing: &Standing,
 ) -> Result<(), KeepFault>
     requires { ServesBy rules.now.reserves (state S.Store conn.old) }
-    ensures there { HasCleanDisk (state S.Store conn.new)
-        → OnOk result (HasStandingItem rules.now.editions (state S.Store conn.old).now.trees item) }
-    ensures start { HasCleanDisk (state S.Store conn.new)
-        → OnOk result (OfItem item (StartsAt (opening_of standing.now))
-        (state S.Store conn.old).now) }
+    ensures finds { Finds S.Store conn.old conn.new result
+        (λ db _. BeginsThere rules.now.editions item (opening_of standing.now) db)
+        (BidFitsThere rules.now.editions item standing.now) }
     ensures led { OnOk result (is_some standing.now.top ≡ is_some standing.now.leader) }
     ensures is_consistent { OnOk result (is_standing (bands_in rules.now.editions item) standing.now
         ≡ true) }
-    ensures damaged { HasCleanDisk (state S.Store conn.new)
-        → RowFitsAt rules.now.editions (state S.Store conn.old).now.trees item
-        → rules.now.editions ≡ band_tables (tables_in (state S.Store conn.old).now.trees)
-        → (moment : ℕ) (placed : TheBid)
-        → BidFits (tables_in (state S.Store conn.old).now.trees) moment item placed standing.now
-        → ¬ (IsErrOf result Damaged) }
-    ensures read { OnlyReads (state S.Store conn.old) (state S.Store conn.new) result }
 {
     let terms = auction_there(conn, rules, item)?.terms;
     let bands = rules.editions.bands_for(u64::from(item));

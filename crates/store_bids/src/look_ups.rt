@@ -1,5 +1,5 @@
-//! Bids, by item and number.
-ghost use Rattle.std.specs.Prelude.{◌≡◌, ◌==◌, ◌&&◌, [], filter, nat_le, take, IfOk, IsErrOf, OnOk};
+//! Whether a bid is there, and on which items a member has bid.
+ghost use Rattle.std.specs.Prelude.{◌≡◌, ◌==◌, ◌&&◌, ⊤, [], filter, nat_le, take, IsErrOf, OnOk};
 ghost use Rattle.std.specs.List.{list_any};
 ghost use Rattle.sqlite.specs.State.{HasCleanDisk, Shown};
 ghost use Rattle.sqlite.specs.Given.{IsPlain};
@@ -11,7 +11,7 @@ ghost use Rattle.store_rows.specs.House.{Serves};
 ghost use Rattle.store_rows.specs.Schema.{house_schema};
 ghost use Rattle.store_rows.specs.First.{IsFinite, ShowsSome};
 ghost use Rattle.store_rows.specs.Sorted.{sorted_bids};
-ghost use Rattle.store_rows.specs.Frames.{OnlyReads};
+ghost use Rattle.store_rows.specs.Frames.{Finds, OnlyReads};
 ghost use Rattle.store_bids.specs.OwnBids.{items_bid_on};
 
 use house_rows::{KeepFault, MOST_SHOWN};
@@ -26,11 +26,10 @@ pub(crate) fn has_bid<S: Alter>(
     number: u32,
 ) -> Result<bool, KeepFault>
     requires { Serves (state S.Store conn.old) }
-    ensures found { HasCleanDisk (state S.Store conn.new)
-        → IfOk result (λ is. is ≡ list_any (λ b. (b.item == item) && (b.bid.no == number))
-        (sorted_bids (state S.Store conn.old).now.trees)) }
+    ensures finds { Finds S.Store conn.old conn.new result
+        (λ db is. is ≡ list_any (λ b. (b.item == item) && (b.bid.no == number)) (sorted_bids db))
+        (λ _. ⊤) }
     ensures sound { ¬ (IsErrOf result Damaged) }
-    ensures read { OnlyReads (state S.Store conn.old) (state S.Store conn.new) result }
 {
     let rows = rows_shown(
         conn,
@@ -48,11 +47,9 @@ pub(crate) fn items_bid_on<S: Alter>(
     from: u32,
 ) -> Result<Vec<u32>, KeepFault>
     requires { Serves (state S.Store conn.old) }
-    ensures items { HasCleanDisk (state S.Store conn.new)
-        → IfOk result (λ items. items.items ≡ take most_shown (filter (nat_le from)
-        (items_bid_on (sorted_bids (state S.Store conn.old).now.trees) member))) }
-    ensures sound { HasCleanDisk (state S.Store conn.new) → ¬ (IsErrOf result Damaged) }
-    ensures read { OnlyReads (state S.Store conn.old) (state S.Store conn.new) result }
+    ensures { Finds S.Store conn.old conn.new result
+        (λ db items. items.items ≡ take most_shown (filter (nat_le from)
+        (items_bid_on (sorted_bids db) member))) (λ _. ⊤) }
 {
     let rows = first_rows(
         alloc,

@@ -1,16 +1,12 @@
-//! What a member has bid on an item.
-ghost use Rattle.std.specs.Prelude.{◌≡◌, IfOk, IsErrOf};
-ghost use Rattle.std.specs.List.{AllByRecursion};
-ghost use Rattle.sqlite.specs.State.{HasCleanDisk};
+//! A member's greatest maximum on an item, and the number of its bids there.
+ghost use Rattle.std.specs.Prelude.{◌≡◌};
 ghost use Rattle.sqlite.specs.Held.{state};
 ghost use Rattle.proxy.specs.Bids.{greatest_of, maxima};
-ghost use Rattle.house_rows.specs.Fits.{BidRowFits};
 ghost use Rattle.house_rows.specs.Found.{best_of};
-ghost use Rattle.house_rows.specs.Keeping.{AreSound};
-ghost use Rattle.house_rows.specs.declared.fault.KeepFault.TheVariants.{Damaged};
 ghost use Rattle.store_rows.specs.House.{Serves};
 ghost use Rattle.store_rows.specs.Tables.{tables_in};
-ghost use Rattle.store_rows.specs.Frames.{OnlyReads};
+ghost use Rattle.store_rows.specs.Frames.{Finds};
+ghost use Rattle.store_bids.specs.Listed.{OwnBidsFit};
 
 use crate::member_bids::bids_of_on;
 use cents::Cents;
@@ -39,17 +35,9 @@ pub fn own_best<S: Alter>(
     member: u32,
 ) -> Result<OwnBest, KeepFault>
     requires { Serves (state S.Store conn.old) }
-    ensures value { HasCleanDisk (state S.Store conn.new)
-        → IfOk result (λ best. best ≡ best_of
-        (tables_in (state S.Store conn.old).now.trees) member item) }
-    ensures damaged { HasCleanDisk (state S.Store conn.new)
-        → AreSound (tables_in (state S.Store conn.old).now.trees)
-        → ¬ (IsErrOf result Damaged) }
-    ensures here { HasCleanDisk (state S.Store conn.new)
-        → AllByRecursion (λ b. b.bid.member ≡ member → b.item ≡ item → BidRowFits b)
-        (tables_in (state S.Store conn.old).now.trees).bids
-        → ¬ (IsErrOf result Damaged) }
-    ensures read { OnlyReads (state S.Store conn.old) (state S.Store conn.new) result }
+    ensures { Finds S.Store conn.old conn.new result
+        (λ db best. best ≡ best_of (tables_in db) member item)
+        (λ db. OwnBidsFit member item (tables_in db).bids) }
 {
     let bids = bids_of_on(alloc, conn, member, item)?;
     Ok(OwnBest {

@@ -6,6 +6,7 @@ pub mod FindMeaning
 pub mod MemberMeaning
 pub mod MemberLemmas
 pub mod PeopleFinds
+pub mod PeopleSound
 pub mod Written
 pub mod NewHouse
 pub mod NumberLemmas

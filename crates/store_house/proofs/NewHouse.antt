@@ -122,24 +122,26 @@ new_is_sound : (settings : Settings) (new : Database) → IsHouse new → IsBand
     → new.trees 2 ≡ [] → new.trees 4 ≡ [] → new.trees 6 ≡ [] → reserves_in new.trees ≡ [] → new.trees 24 ≡ [] → later_bands_in new.trees ≡ [] → is_plain settings.zone ≡ true → IsSoundHouse new
 new_is_sound settings new house valid rate houses bands members categories items sealed none_set no_later plain = record {
   house = house;
-  set_up = record {
-    house = subst (λ (l : List HouseRow). is_some (find (λ h. h.id == 1) l) ≡ true) (sym houses) refl;
-    fits = subst (λ (l : List HouseRow). IfSome (find (λ h. h.id == 1) l) HouseRowFits) (sym houses) (record { id = refl; version = refl; clock = omega arith; rate = rate; zone = plain });
-    bands = subst IsBandTable (sym (ap (map (λ (b : BandRow). (b.from, b.step))) bands ∙ same_bands settings.bands)) valid;
+  readable = record {
+    set_up = record {
+      house = subst (λ (l : List HouseRow). is_some (find (λ h. h.id == 1) l) ≡ true) (sym houses) refl;
+      fits = subst (λ (l : List HouseRow). IfSome (find (λ h. h.id == 1) l) HouseRowFits) (sym houses) (record { id = refl; version = refl; clock = omega arith; rate = rate; zone = plain });
+      bands = subst IsBandTable (sym (ap (map (λ (b : BandRow). (b.from, b.step))) bands ∙ same_bands settings.bands)) valid;
+    };
+    numbered = record {
+      few_members = subst (λ rows. length (map member_in rows) < 2 ^ 32) (sym members) (omega arith);
+      members = subst (λ rows. AllByRecursion (λ (m : _). IsWithin 1 (length (map member_in rows)) m.member) (map member_in rows)) (sym members) tt;
+      few_categories = subst (λ rows. length (map category_in rows) < 2 ^ 32) (sym categories) (omega arith);
+      categories = subst (λ rows. AllByRecursion (λ (k : _). IsWithin 1 (length (map category_in rows)) k.category) (map category_in rows)) (sym categories) tt;
+      few_items = subst (λ rows. length (map (item_row_in []) rows) < 2 ^ 32) (sym items) (omega arith);
+      items = subst (λ rows. AllByRecursion (λ (row : _). IsWithin 1 (length (map (item_row_in []) rows)) row.item.terms.item) (map (item_row_in []) rows)) (sym items) tt;
+    };
+    reserved = record {
+      fit = subst (AllByRecursion ReserveRowFits) (sym sealed) tt;
+      within = subst (AllByRecursion (λ (r : ReserveRow). r.item ≤ length (items_by [] new.trees))) (sym sealed) tt;
+    };
+    set = none_set_yet new.trees none_set no_later;
   };
-  numbered = record {
-    few_members = subst (λ rows. length (map member_in rows) < 2 ^ 32) (sym members) (omega arith);
-    members = subst (λ rows. AllByRecursion (λ (m : _). IsWithin 1 (length (map member_in rows)) m.member) (map member_in rows)) (sym members) tt;
-    few_categories = subst (λ rows. length (map category_in rows) < 2 ^ 32) (sym categories) (omega arith);
-    categories = subst (λ rows. AllByRecursion (λ (k : _). IsWithin 1 (length (map category_in rows)) k.category) (map category_in rows)) (sym categories) tt;
-    few_items = subst (λ rows. length (map (item_row_in []) rows) < 2 ^ 32) (sym items) (omega arith);
-    items = subst (λ rows. AllByRecursion (λ (row : _). IsWithin 1 (length (map (item_row_in []) rows)) row.item.terms.item) (map (item_row_in []) rows)) (sym items) tt;
-  };
-  reserved = record {
-    fit = subst (AllByRecursion ReserveRowFits) (sym sealed) tt;
-    within = subst (AllByRecursion (λ (r : ReserveRow). r.item ≤ length (items_by [] new.trees))) (sym sealed) tt;
-  };
-  set = none_set_yet new.trees none_set no_later;
 }
 
 pub house_started : (settings : Settings) (old new : Database) → IsBandTable settings.bands → settings.rate ≤ 2000 → IsBanded settings.bands old → AddsHouse settings.rate settings.zone old new → IsStarted settings new

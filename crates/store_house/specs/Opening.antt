@@ -1,5 +1,5 @@
 -- What is read of a house as it is opened, and which houses are taken.
-use Rattle.std.specs.Prelude.{◌≡◌, ◌≢◌, ◌⊎◌, ◌≤◌, ◌<◌, ◌+◌, ◌^◌, ◌==◌, ℕ, List, [], IfSome, IsTrue, Some, false, true, find, is_some, length, map, option_map}
+use Rattle.std.specs.Prelude.{◌≡◌, ◌≢◌, ◌⊎◌, ◌≤◌, ◌<◌, ◌+◌, ◌^◌, ◌==◌, ℕ, List, [], IfSome, IsTrue, Option, Some, false, true, find, is_some, length, map, option_map}
 use Rattle.std.specs.List.{AllByRecursion}
 use Rattle.sqlite_trees.specs.declared.store.Store.{Ghosts}
 use Rattle.sqlite_trees.specs.Tree.{Trees}
@@ -15,6 +15,7 @@ use Rattle.house_rows.specs.declared.settings.Settings.{Settings}
 use Rattle.house_rows.specs.Keeping.{AreInTurn}
 use Rattle.house_rows.specs.Limits.{most_editions}
 use Rattle.house_rows.specs.declared.edition.Edition.{Edition}
+use Rattle.house_rows.specs.Editions.{BandTables}
 use Rattle.store_rows.specs.Fitting.{EditionRowFits, FirstRowFits, HouseRowFits, LaterBandRowFits, ReserveRowFits}
 use Rattle.store_rows.specs.House.{IsFirstHouse, IsHouse, with_version}
 use Rattle.store_rows.specs.ItemRows.{items_by}
@@ -33,6 +34,12 @@ pub record AreNumbered (db : Trees) : Type 0 where
   pub few_items : length (items_by [] db) < 2 ^ 32
   pub items : AllByRecursion (λ row. IsWithin 1 (length (items_by [] db)) row.item.terms.item) (items_by [] db)
 
+-- so many rows, a number of 32 bits, each with a number from 1 to that
+pub record IsCount {A : Type 0} (n : ℕ) (number : A → ℕ) (rows : List A) : Type 0 where
+  pub count : length rows ≡ n
+  pub few : n < 2 ^ 32
+  pub within : AllByRecursion (λ x. IsWithin 1 n (number x)) rows
+
 -- the tables have so many rows, numbered from 1 on
 pub record HaveNumbers (db : Trees) (counts : Counts) : Type 0 where
   pub members : length (members_in db) ≡ counts.members
@@ -40,15 +47,23 @@ pub record HaveNumbers (db : Trees) (counts : Counts) : Type 0 where
   pub items : length (items_by [] db) ≡ counts.items
   pub numbered : AreNumbered db
 
--- each reserve fits, and is of an item with a number of at most how many items there are
-pub record AreReserved (db : Trees) : Type 0 where
+-- each reserve fits, and is of an item with a number of at most this
+pub record AreReservedTo (most : ℕ) (db : Trees) : Type 0 where
   pub fit : AllByRecursion ReserveRowFits (reserves_in db)
-  pub within : AllByRecursion (λ r. r.item ≤ length (items_by [] db)) (reserves_in db)
+  pub within : AllByRecursion (λ r. r.item ≤ most) (reserves_in db)
 
--- the house has these reserves
-pub record HasReserves (db : Trees) (reserves : List ReserveRow) : Type 0 where
+-- of at most how many items there are
+abbrev pub AreReserved : Trees → Type 0
+AreReserved db = AreReservedTo (length (items_by [] db)) db
+
+-- the house has these reserves, each of an item with a number of at most this
+pub record HasReservesTo (most : ℕ) (db : Trees) (reserves : List ReserveRow) : Type 0 where
   pub reserves_are : reserves ≡ reserves_in db
-  pub within : AllByRecursion (λ r. r.item ≤ length (items_by [] db)) (reserves_in db)
+  pub within : AllByRecursion (λ r. r.item ≤ most) (reserves_in db)
+
+-- of at most how many items there are
+abbrev pub HasReserves : Trees → List ReserveRow → Type 0
+HasReserves db = HasReservesTo (length (items_by [] db)) db
 
 -- The editions of the band table fit, are fewer than there may be with the first and numbered in turn from 2, and each has bands
 -- that are a table. The bands fit, and each is of one of these editions.
@@ -72,6 +87,13 @@ pub record HasSettings (db : Trees) (settings : Settings) (clock : ℕ) : Type 0
   pub settings_are : settings_in db ≡ settings
   pub clock_is : (house_row_in db).clock ≡ clock
 
+-- what was read of a house is what it has
+pub record HasRead (db : Trees) (editions : BandTables) (clock : ℕ) (counts : Counts) (reserves : List ReserveRow) : Type 0 where
+  pub has_settings : HasSettings db editions.settings clock
+  pub has_editions : HasEditions db editions.later
+  pub have_numbers : HaveNumbers db counts
+  pub has_reserves : HasReserves db reserves
+
 -- ---- which houses are taken
 
 -- the row of the house is there and fits, and its bands are a table
@@ -80,13 +102,17 @@ pub record IsSetUp (db : Trees) : Type 0 where
   pub fits : IfSome (find (λ h. h.id == 1) (houses_in db)) HouseRowFits
   pub bands : IsBandTable (map (λ b. (b.from, b.step)) (bands_in db))
 
+-- what an opening reads of a house fits
+pub record IsReadable (db : Trees) : Type 0 where
+  pub set_up : IsSetUp db
+  pub numbered : AreNumbered db
+  pub reserved : AreReserved db
+  pub set : AreSet db
+
 -- a house that an opening takes
 pub record IsSoundHouse (db : Database) : Type 0 where
   pub house : IsHouse db
-  pub set_up : IsSetUp db.trees
-  pub numbered : AreNumbered db.trees
-  pub reserved : AreReserved db.trees
-  pub set : AreSet db.trees
+  pub readable : IsReadable db.trees
 
 -- what a crash finds is a house to which nothing has happened yet
 abbrev pub NewHouse : Settings → Trees → Type 0
@@ -110,11 +136,15 @@ pub record IsSoundFirst (db : Database) : Type 0 where
 abbrev pub first_tables_in : Trees → Tables
 first_tables_in db = record (tables_in db) { items = items_by [] db; editions = [] }
 
+-- the version of the tables, as the row of the house gives it
+abbrev pub version_in : Trees → Option ℕ
+version_in db = option_map (λ h. h.version) (find (λ h. h.id == 1) (houses_in db))
+
 -- A house of version 1 is made one of version 2: its row has the version, the three new tables have
 -- no row, and the others have those that they had.
 pub record Upgrades (old : Trees) (new : Database) : Type 0 where
   pub was : (first : Database) × IsFirstHouse first × (first.trees ≡ old)
-  pub version : option_map (λ h. h.version) (find (λ h. h.id == 1) (houses_in old)) ≡ Some 1
+  pub version : version_in old ≡ Some 1
   pub house : IsHouse new
   pub houses : houses_in new.trees ≡ map (with_version 2) (houses_in old)
   pub others : AllByRecursion (λ t. t.tree ≢ 0 → new.trees t.tree ≡ old t.tree) first_schema.tables

@@ -8,7 +8,7 @@ ghost use Rattle.house_rows.specs.Text.{same_text};
 ghost use Rattle.house_rows.specs.declared.fault.KeepFault.TheVariants.{Damaged};
 ghost use Rattle.store_rows.specs.House.{IsBegun, Serves, AddsCategory};
 ghost use Rattle.store_rows.specs.Rows.{categories_in};
-ghost use Rattle.store_rows.specs.Frames.{WritesOnce, OnlyReads};
+ghost use Rattle.store_rows.specs.Frames.{Finds, WritesOnce};
 
 use house_rows::{Category, KeepFault};
 use sqlite::{Alter, Connection, Transaction, params};
@@ -43,18 +43,10 @@ pub fn category_at<S: Alter>(
     number: u32,
 ) -> Result<Option<Category>, KeepFault>
     requires { Serves (state S.Store conn.old) }
-    ensures found { HasCleanDisk (state S.Store conn.new)
-        → IfOk result (λ found. found ≡ find (λ m. m.category == number)
-        (categories_in (state S.Store conn.old).now.trees)) }
+    ensures finds { Finds S.Store conn.old conn.new result
+        (λ db found. found ≡ find (λ m. m.category == number) (categories_in db))
+        (λ db. IfSome (find (λ m. m.category == number) (categories_in db)) CategoryFits) }
     ensures fits { IfOk result (λ found. IfSome found CategoryFits) }
-    ensures damaged { HasCleanDisk (state S.Store conn.new)
-        → AllByRecursion CategoryFits (categories_in (state S.Store conn.old).now.trees)
-        → ¬ (IsErrOf result Damaged) }
-    ensures here { HasCleanDisk (state S.Store conn.new)
-        → IfSome (find (λ m. m.category == number)
-        (categories_in (state S.Store conn.old).now.trees)) CategoryFits
-        → ¬ (IsErrOf result Damaged) }
-    ensures read { OnlyReads (state S.Store conn.old) (state S.Store conn.new) result }
 {
     let rows = rows_shown(
         conn,
@@ -70,18 +62,10 @@ pub fn category_named<S: Alter>(
     name: &str,
 ) -> Result<Option<Category>, KeepFault>
     requires { Serves (state S.Store conn.old) }
-    ensures found { HasCleanDisk (state S.Store conn.new)
-        → IfOk result (λ found. found ≡ find (λ m. same_text m.name name.now)
-        (categories_in (state S.Store conn.old).now.trees)) }
+    ensures finds { Finds S.Store conn.old conn.new result
+        (λ db found. found ≡ find (λ m. same_text m.name name.now) (categories_in db))
+        (λ db. IfSome (find (λ m. same_text m.name name.now) (categories_in db)) CategoryFits) }
     ensures fits { IfOk result (λ found. IfSome found CategoryFits) }
-    ensures damaged { HasCleanDisk (state S.Store conn.new)
-        → AllByRecursion CategoryFits (categories_in (state S.Store conn.old).now.trees)
-        → ¬ (IsErrOf result Damaged) }
-    ensures here { HasCleanDisk (state S.Store conn.new)
-        → IfSome (find (λ m. same_text m.name name.now)
-        (categories_in (state S.Store conn.old).now.trees)) CategoryFits
-        → ¬ (IsErrOf result Damaged) }
-    ensures read { OnlyReads (state S.Store conn.old) (state S.Store conn.new) result }
 {
     let rows = rows_shown(
         conn,
@@ -97,14 +81,9 @@ pub fn all_categories<S: Alter>(
     conn: &mut Connection<S>,
 ) -> Result<Vec<Category>, KeepFault>
     requires { Serves (state S.Store conn.old) }
-    ensures categories { HasCleanDisk (state S.Store conn.new)
-        → IfOk result (λ categories. categories.items ≡ categories_in
-        (state S.Store conn.old).now.trees) }
+    ensures finds { Finds S.Store conn.old conn.new result
+        (λ db all. all.items ≡ categories_in db) (λ db. AllByRecursion CategoryFits (categories_in db)) }
     ensures fits { IfOk result (λ all. AllByRecursion CategoryFits all.items) }
-    ensures damaged { HasCleanDisk (state S.Store conn.new)
-        → AllByRecursion CategoryFits (categories_in (state S.Store conn.old).now.trees)
-        → ¬ (IsErrOf result Damaged) }
-    ensures read { OnlyReads (state S.Store conn.old) (state S.Store conn.new) result }
 {
     let rows = rows_shown(conn, "SELECT id, name FROM category ORDER BY id", &[])?;
     all_of(alloc, &rows)

@@ -1,12 +1,10 @@
 //! How many members, categories and items there are.
-ghost use Rattle.std.specs.Prelude.{◌≡◌, length, min, IfOk, ◌<◌, IsErrOf};
-ghost use Rattle.sqlite.specs.State.{HasCleanDisk};
+ghost use Rattle.std.specs.Prelude.{◌≡◌, ⊤, length, min};
 ghost use Rattle.sqlite.specs.Held.{state};
-ghost use Rattle.house_rows.specs.declared.fault.KeepFault.TheVariants.{Damaged};
 ghost use Rattle.store_rows.specs.House.{Serves};
 ghost use Rattle.store_rows.specs.Rows.{categories_in, members_in};
 ghost use Rattle.store_rows.specs.Counts.{most_counted};
-ghost use Rattle.store_rows.specs.Frames.{OnlyReads};
+ghost use Rattle.store_rows.specs.Frames.{Finds};
 
 use house_rows::KeepFault;
 use sqlite::{Alter, Connection};
@@ -15,11 +13,8 @@ use store_rows::{read_count, rows_shown};
 /// How many members there are.
 pub(crate) fn count_members<S: Alter>(conn: &mut Connection<S>) -> Result<u64, KeepFault>
     requires { Serves (state S.Store conn.old) }
-    ensures count { HasCleanDisk (state S.Store conn.new)
-        → IfOk result (λ n. n ≡ min (length (members_in
-        (state S.Store conn.old).now.trees)) most_counted) }
-    ensures sound { HasCleanDisk (state S.Store conn.new) → ¬ (IsErrOf result Damaged) }
-    ensures read { OnlyReads (state S.Store conn.old) (state S.Store conn.new) result }
+    ensures { Finds S.Store conn.old conn.new result
+        (λ db n. n ≡ min (length (members_in db)) most_counted) (λ _. ⊤) }
 {
     let rows = rows_shown(conn, "SELECT count(*) FROM member", &[])?;
     read_count(&rows)
@@ -28,11 +23,8 @@ pub(crate) fn count_members<S: Alter>(conn: &mut Connection<S>) -> Result<u64, K
 /// How many categories there are.
 pub(crate) fn count_categories<S: Alter>(conn: &mut Connection<S>) -> Result<u64, KeepFault>
     requires { Serves (state S.Store conn.old) }
-    ensures count { HasCleanDisk (state S.Store conn.new)
-        → IfOk result (λ n. n ≡ min (length (categories_in
-        (state S.Store conn.old).now.trees)) most_counted) }
-    ensures sound { HasCleanDisk (state S.Store conn.new) → ¬ (IsErrOf result Damaged) }
-    ensures read { OnlyReads (state S.Store conn.old) (state S.Store conn.new) result }
+    ensures { Finds S.Store conn.old conn.new result
+        (λ db n. n ≡ min (length (categories_in db)) most_counted) (λ _. ⊤) }
 {
     let rows = rows_shown(conn, "SELECT count(*) FROM category", &[])?;
     read_count(&rows)
@@ -41,10 +33,8 @@ pub(crate) fn count_categories<S: Alter>(conn: &mut Connection<S>) -> Result<u64
 /// How many rows the table of items has.
 pub(crate) fn count_items<S: Alter>(conn: &mut Connection<S>) -> Result<u64, KeepFault>
     requires { Serves (state S.Store conn.old) }
-    ensures count { HasCleanDisk (state S.Store conn.new)
-        → IfOk result (λ n. n ≡ min (length ((state S.Store conn.old).now.trees 6)) most_counted) }
-    ensures sound { HasCleanDisk (state S.Store conn.new) → ¬ (IsErrOf result Damaged) }
-    ensures read { OnlyReads (state S.Store conn.old) (state S.Store conn.new) result }
+    ensures { Finds S.Store conn.old conn.new result
+        (λ db n. n ≡ min (length (db 6)) most_counted) (λ _. ⊤) }
 {
     let rows = rows_shown(conn, "SELECT count(*) FROM item", &[])?;
     read_count(&rows)

@@ -8,7 +8,7 @@ ghost use Rattle.house_rows.specs.Text.{same_text};
 ghost use Rattle.house_rows.specs.declared.fault.KeepFault.TheVariants.{Damaged};
 ghost use Rattle.store_rows.specs.House.{IsBegun, Serves, AddsMember};
 ghost use Rattle.store_rows.specs.Rows.{members_in};
-ghost use Rattle.store_rows.specs.Frames.{WritesOnce, OnlyReads};
+ghost use Rattle.store_rows.specs.Frames.{Finds, WritesOnce};
 
 use house_rows::{KeepFault, Member};
 use sqlite::{Alter, Connection, Transaction, params};
@@ -43,18 +43,10 @@ pub fn member_at<S: Alter>(
     number: u32,
 ) -> Result<Option<Member>, KeepFault>
     requires { Serves (state S.Store conn.old) }
-    ensures found { HasCleanDisk (state S.Store conn.new)
-        → IfOk result (λ found. found ≡ find (λ m. m.member == number)
-        (members_in (state S.Store conn.old).now.trees)) }
+    ensures finds { Finds S.Store conn.old conn.new result
+        (λ db found. found ≡ find (λ m. m.member == number) (members_in db))
+        (λ db. IfSome (find (λ m. m.member == number) (members_in db)) MemberFits) }
     ensures fits { IfOk result (λ found. IfSome found MemberFits) }
-    ensures damaged { HasCleanDisk (state S.Store conn.new)
-        → AllByRecursion MemberFits (members_in (state S.Store conn.old).now.trees)
-        → ¬ (IsErrOf result Damaged) }
-    ensures here { HasCleanDisk (state S.Store conn.new)
-        → IfSome (find (λ m. m.member == number)
-        (members_in (state S.Store conn.old).now.trees)) MemberFits
-        → ¬ (IsErrOf result Damaged) }
-    ensures read { OnlyReads (state S.Store conn.old) (state S.Store conn.new) result }
 {
     let rows = rows_shown(
         conn,
@@ -70,18 +62,10 @@ pub fn member_named<S: Alter>(
     name: &str,
 ) -> Result<Option<Member>, KeepFault>
     requires { Serves (state S.Store conn.old) }
-    ensures found { HasCleanDisk (state S.Store conn.new)
-        → IfOk result (λ found. found ≡ find (λ m. same_text m.name name.now)
-        (members_in (state S.Store conn.old).now.trees)) }
+    ensures finds { Finds S.Store conn.old conn.new result
+        (λ db found. found ≡ find (λ m. same_text m.name name.now) (members_in db))
+        (λ db. IfSome (find (λ m. same_text m.name name.now) (members_in db)) MemberFits) }
     ensures fits { IfOk result (λ found. IfSome found MemberFits) }
-    ensures damaged { HasCleanDisk (state S.Store conn.new)
-        → AllByRecursion MemberFits (members_in (state S.Store conn.old).now.trees)
-        → ¬ (IsErrOf result Damaged) }
-    ensures here { HasCleanDisk (state S.Store conn.new)
-        → IfSome (find (λ m. same_text m.name name.now)
-        (members_in (state S.Store conn.old).now.trees)) MemberFits
-        → ¬ (IsErrOf result Damaged) }
-    ensures read { OnlyReads (state S.Store conn.old) (state S.Store conn.new) result }
 {
     let rows = rows_shown(
         conn,
@@ -97,13 +81,9 @@ pub fn all_members<S: Alter>(
     conn: &mut Connection<S>,
 ) -> Result<Vec<Member>, KeepFault>
     requires { Serves (state S.Store conn.old) }
-    ensures members { HasCleanDisk (state S.Store conn.new)
-        → IfOk result (λ members. members.items ≡ members_in (state S.Store conn.old).now.trees) }
+    ensures finds { Finds S.Store conn.old conn.new result
+        (λ db all. all.items ≡ members_in db) (λ db. AllByRecursion MemberFits (members_in db)) }
     ensures fits { IfOk result (λ all. AllByRecursion MemberFits all.items) }
-    ensures damaged { HasCleanDisk (state S.Store conn.new)
-        → AllByRecursion MemberFits (members_in (state S.Store conn.old).now.trees)
-        → ¬ (IsErrOf result Damaged) }
-    ensures read { OnlyReads (state S.Store conn.old) (state S.Store conn.new) result }
 {
     let rows = rows_shown(conn, "SELECT id, name FROM member ORDER BY id", &[])?;
     all_of(alloc, &rows)

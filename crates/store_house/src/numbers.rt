@@ -1,5 +1,5 @@
 //! How many members, categories and items there are, whose numbers run no higher.
-ghost use Rattle.std.specs.Prelude.{◌≡◌, ◌<◌, ◌^◌, List, [], length, IfOk, OnOk, IsErrOf};
+ghost use Rattle.std.specs.Prelude.{◌≡◌, ◌<◌, ◌^◌, List, [], IfOk, OnOk, IsErrOf};
 ghost use Rattle.std.specs.List.{AllByRecursion};
 ghost use Rattle.sqlite_value.specs.Order.{Row};
 ghost use Rattle.sqlite.specs.Given.{IsPlain};
@@ -13,8 +13,8 @@ ghost use Rattle.store_rows.specs.House.{IsHouse, Serves};
 ghost use Rattle.store_rows.specs.ItemRows.{items_by};
 ghost use Rattle.store_rows.specs.Rows.{categories_in, members_in};
 ghost use Rattle.store_rows.specs.Schema.{house_schema};
-ghost use Rattle.store_house.specs.Opening.{AreNumbered, HaveNumbers};
-ghost use Rattle.store_rows.specs.Frames.{OnlyReads};
+ghost use Rattle.store_house.specs.Opening.{AreNumbered, HaveNumbers, IsCount};
+ghost use Rattle.store_rows.specs.Frames.{Finds, OnlyReads};
 
 use crate::counts::{count_categories, count_items, count_members};
 use house_rows::{Counts, KeepFault};
@@ -62,14 +62,9 @@ fn small(count: u64) -> Result<u32, KeepFault>
 // Damaged where a member has a number that is not from 1 to this one.
 fn members_within<S: Alter>(conn: &mut Connection<S>, most: u32) -> Result<(), KeepFault>
     requires { Serves (state S.Store conn.old) }
-    ensures within { HasCleanDisk (state S.Store conn.new)
-        → OnOk result (AllByRecursion (λ m. IsWithin 1 most m.member)
-        (members_in (state S.Store conn.old).now.trees)) }
-    ensures damaged { HasCleanDisk (state S.Store conn.new)
-        → AllByRecursion (λ m. IsWithin 1 most m.member)
-        (members_in (state S.Store conn.old).now.trees)
-        → ¬ (IsErrOf result Damaged) }
-    ensures read { OnlyReads (state S.Store conn.old) (state S.Store conn.new) result }
+    ensures { Finds S.Store conn.old conn.new result
+        (λ db _. AllByRecursion (λ m. IsWithin 1 most m.member) (members_in db))
+        (λ db. AllByRecursion (λ m. IsWithin 1 most m.member) (members_in db)) }
 {
     shows_none(conn, "SELECT id FROM member WHERE id < 1 ORDER BY id", &[])?;
     shows_none(
@@ -82,14 +77,9 @@ fn members_within<S: Alter>(conn: &mut Connection<S>, most: u32) -> Result<(), K
 // Damaged where a category has a number that is not from 1 to this one.
 fn categories_within<S: Alter>(conn: &mut Connection<S>, most: u32) -> Result<(), KeepFault>
     requires { Serves (state S.Store conn.old) }
-    ensures within { HasCleanDisk (state S.Store conn.new)
-        → OnOk result (AllByRecursion (λ k. IsWithin 1 most k.category)
-        (categories_in (state S.Store conn.old).now.trees)) }
-    ensures damaged { HasCleanDisk (state S.Store conn.new)
-        → AllByRecursion (λ k. IsWithin 1 most k.category)
-        (categories_in (state S.Store conn.old).now.trees)
-        → ¬ (IsErrOf result Damaged) }
-    ensures read { OnlyReads (state S.Store conn.old) (state S.Store conn.new) result }
+    ensures { Finds S.Store conn.old conn.new result
+        (λ db _. AllByRecursion (λ k. IsWithin 1 most k.category) (categories_in db))
+        (λ db. AllByRecursion (λ k. IsWithin 1 most k.category) (categories_in db)) }
 {
     shows_none(
         conn,
@@ -106,14 +96,9 @@ fn categories_within<S: Alter>(conn: &mut Connection<S>, most: u32) -> Result<()
 // Damaged where an item has a number that is not from 1 to this one.
 fn items_within<S: Alter>(conn: &mut Connection<S>, most: u32) -> Result<(), KeepFault>
     requires { Serves (state S.Store conn.old) }
-    ensures within { HasCleanDisk (state S.Store conn.new)
-        → OnOk result (AllByRecursion (λ row. IsWithin 1 most row.item.terms.item)
-        (items_by [] (state S.Store conn.old).now.trees)) }
-    ensures damaged { HasCleanDisk (state S.Store conn.new)
-        → AllByRecursion (λ row. IsWithin 1 most row.item.terms.item)
-        (items_by [] (state S.Store conn.old).now.trees)
-        → ¬ (IsErrOf result Damaged) }
-    ensures read { OnlyReads (state S.Store conn.old) (state S.Store conn.new) result }
+    ensures { Finds S.Store conn.old conn.new result
+        (λ db _. AllByRecursion (λ row. IsWithin 1 most row.item.terms.item) (items_by [] db))
+        (λ db. AllByRecursion (λ row. IsWithin 1 most row.item.terms.item) (items_by [] db)) }
 {
     shows_none(conn, "SELECT id FROM item WHERE id < 1 ORDER BY id", &[])?;
     shows_none(
@@ -126,14 +111,8 @@ fn items_within<S: Alter>(conn: &mut Connection<S>, most: u32) -> Result<(), Kee
 // How many members there are; Damaged where one has a number that is 0 or over that.
 fn members_numbered<S: Alter>(conn: &mut Connection<S>) -> Result<u32, KeepFault>
     requires { Serves (state S.Store conn.old) }
-    ensures count { HasCleanDisk (state S.Store conn.new)
-        → IfOk result (λ n. (length (members_in (state S.Store conn.old).now.trees) ≡ n)
-        × (n < 2 ^ 32) × AllByRecursion (λ m. IsWithin 1 n m.member)
-        (members_in (state S.Store conn.old).now.trees)) }
-    ensures damaged { HasCleanDisk (state S.Store conn.new)
-        → AreNumbered (state S.Store conn.old).now.trees
-        → ¬ (IsErrOf result Damaged) }
-    ensures read { OnlyReads (state S.Store conn.old) (state S.Store conn.new) result }
+    ensures { Finds S.Store conn.old conn.new result
+        (λ db n. IsCount n (λ m. m.member) (members_in db)) AreNumbered }
 {
     let count = small(count_members(conn)?)?;
     members_within(conn, count)?;
@@ -143,14 +122,8 @@ fn members_numbered<S: Alter>(conn: &mut Connection<S>) -> Result<u32, KeepFault
 // How many categories there are; Damaged where one has a number that is 0 or over that.
 fn categories_numbered<S: Alter>(conn: &mut Connection<S>) -> Result<u32, KeepFault>
     requires { Serves (state S.Store conn.old) }
-    ensures count { HasCleanDisk (state S.Store conn.new)
-        → IfOk result (λ n. (length (categories_in (state S.Store conn.old).now.trees) ≡ n)
-        × (n < 2 ^ 32) × AllByRecursion (λ k. IsWithin 1 n k.category)
-        (categories_in (state S.Store conn.old).now.trees)) }
-    ensures damaged { HasCleanDisk (state S.Store conn.new)
-        → AreNumbered (state S.Store conn.old).now.trees
-        → ¬ (IsErrOf result Damaged) }
-    ensures read { OnlyReads (state S.Store conn.old) (state S.Store conn.new) result }
+    ensures { Finds S.Store conn.old conn.new result
+        (λ db n. IsCount n (λ k. k.category) (categories_in db)) AreNumbered }
 {
     let count = small(count_categories(conn)?)?;
     categories_within(conn, count)?;
@@ -160,14 +133,8 @@ fn categories_numbered<S: Alter>(conn: &mut Connection<S>) -> Result<u32, KeepFa
 // How many items there are; Damaged where one has a number that is 0 or over that.
 fn items_numbered<S: Alter>(conn: &mut Connection<S>) -> Result<u32, KeepFault>
     requires { Serves (state S.Store conn.old) }
-    ensures count { HasCleanDisk (state S.Store conn.new)
-        → IfOk result (λ n. (length (items_by [] (state S.Store conn.old).now.trees) ≡ n)
-        × (n < 2 ^ 32) × AllByRecursion (λ row. IsWithin 1 n row.item.terms.item)
-        (items_by [] (state S.Store conn.old).now.trees)) }
-    ensures damaged { HasCleanDisk (state S.Store conn.new)
-        → AreNumbered (state S.Store conn.old).now.trees
-        → ¬ (IsErrOf result Damaged) }
-    ensures read { OnlyReads (state S.Store conn.old) (state S.Store conn.new) result }
+    ensures { Finds S.Store conn.old conn.new result
+        (λ db n. IsCount n (λ row. row.item.terms.item) (items_by [] db)) AreNumbered }
 {
     let count = small(count_items(conn)?)?;
     items_within(conn, count)?;
@@ -177,12 +144,7 @@ fn items_numbered<S: Alter>(conn: &mut Connection<S>) -> Result<u32, KeepFault>
 /// How many of each there are. `Damaged` where a number is 0 or over the count of its table.
 pub fn read_counts<S: Alter>(conn: &mut Connection<S>) -> Result<Counts, KeepFault>
     requires { Serves (state S.Store conn.old) }
-    ensures counts { HasCleanDisk (state S.Store conn.new)
-        → IfOk result (HaveNumbers (state S.Store conn.old).now.trees) }
-    ensures damaged { HasCleanDisk (state S.Store conn.new)
-        → AreNumbered (state S.Store conn.old).now.trees
-        → ¬ (IsErrOf result Damaged) }
-    ensures read { OnlyReads (state S.Store conn.old) (state S.Store conn.new) result }
+    ensures { Finds S.Store conn.old conn.new result HaveNumbers AreNumbered }
 {
     let members = members_numbered(conn)?;
     let categories = categories_numbered(conn)?;

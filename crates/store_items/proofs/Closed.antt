@@ -92,7 +92,7 @@ ends_none (t ∷ ts) row none = ap (with_ends ts) (end_other t row none.0) ∙ e
 
 -- ---- all rows
 
-module _ (moment : ℕ) (due : List Terms) (db : Database) (house : IsHouse db) (is : IsDue moment due db) where
+module _ (moment : ℕ) (due : List Terms) (db : Database) (house : IsHouse db) (is : IsDue moment due db.trees) where
   items : List ItemRow
   items = items_in db.trees
 

@@ -103,29 +103,13 @@ rows_hold editions reserves Hold shown test params rows answer each order fit =
     let held = all_weaker _ (λ r. Hold (shown_by shown params r)) each rows (all_unmap (FitsBy editions) (item_row_in reserves) rows fit) in
     subst (AllByRecursion Hold) (sym order) (all_map Hold (shown_by shown params) (filter (passes test params) rows) (all-filter (λ r. Hold (shown_by shown params r)) (passes test params) rows held))
 
-module _ (old new : State) (answer : List Row) (house : IsHouse old.now) (editions : BandTables) (fit : AllByRecursion (FitsBy editions) (items_in old.now.trees)) where
-  abbrev R : List ReserveRow
-  R = reserves_in old.now.trees
-
-  pub terms_hold : (n : ℕ) → Shown auction_at_text (Int (pos n) ∷ []) old new answer → IfSome (slice_get answer 0) (TermsHold editions R)
-  terms_hold n h =
-      let params = Int (pos n) ∷ [] in
-      let read = reads_as auction_at_text params old new house_schema house.schema _ auction_at_is.0 auction_at_is.2 auction_at_is.1 answer h in
-      let order = in_order (equals 0 ∷ []) terms_shown params (old.now.trees 6) answer house.shaped.1.1.1.1.0.0 (listed 6 (equals 0 ∷ []) terms_shown by_rowid (overlay old.now.trees []) params answer (read.answer Null)) in
-      first (TermsHold editions R) answer (rows_hold editions R (TermsHold editions R) terms_shown (equals 0 ∷ []) params (old.now.trees 6) answer (terms_row editions R params) order fit)
-
-  pub item_holds : (n : ℕ) → Shown item_at_text (Int (pos n) ∷ []) old new answer → IfSome (slice_get answer 0) (ItemHolds editions R)
-  item_holds n h =
-      let params = Int (pos n) ∷ [] in
-      let read = reads_as item_at_text params old new house_schema house.schema _ item_at_is.0 item_at_is.2 item_at_is.1 answer h in
-      let order = in_order (equals 0 ∷ []) item_shown params (old.now.trees 6) answer house.shaped.1.1.1.1.0.0 (listed 6 (equals 0 ∷ []) item_shown by_rowid (overlay old.now.trees []) params answer (read.answer Null)) in
-      first (ItemHolds editions R) answer (rows_hold editions R (ItemHolds editions R) item_shown (equals 0 ∷ []) params (old.now.trees 6) answer (item_row editions R params) order fit)
-
-  pub items_hold : Shown all_items_text [] old new answer → AllByRecursion (ItemHolds editions R) answer
-  items_hold h =
-      let read = reads_as all_items_text [] old new house_schema house.schema _ all_items_is.0 all_items_is.2 all_items_is.1 answer h in
-      let order = in_order [] item_shown [] (old.now.trees 6) answer house.shaped.1.1.1.1.0.0 (listed 6 [] item_shown by_rowid (overlay old.now.trees []) [] answer (read.answer Null)) in
-      rows_hold editions R (ItemHolds editions R) item_shown [] [] (old.now.trees 6) answer (item_row editions R []) order fit
+pub items_hold : (old new : State) (answer : List Row) → IsHouse old.now → (editions : BandTables) → AllByRecursion (FitsBy editions) (items_in old.now.trees) → Shown all_items_text [] old new answer
+    → AllByRecursion (ItemHolds editions (reserves_in old.now.trees)) answer
+items_hold old new answer house editions fit h =
+    let reserves : List ReserveRow = reserves_in old.now.trees in
+    let read = reads_as all_items_text [] old new house_schema house.schema _ all_items_is.0 all_items_is.2 all_items_is.1 answer h in
+    let order = in_order [] item_shown [] (old.now.trees 6) answer house.shaped.1.1.1.1.0.0 (listed 6 [] item_shown by_rowid (overlay old.now.trees []) [] answer (read.answer Null)) in
+    rows_hold editions reserves (ItemHolds editions reserves) item_shown [] [] (old.now.trees 6) answer (item_row editions reserves []) order fit
 
 -- the row of an item, where it fits
 module _ (reserves : List ReserveRow) (Fits : ItemRow → Type 0) (n : ℕ) (low : n < 2 ^ 32) (rows : List Row) where

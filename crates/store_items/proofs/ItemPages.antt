@@ -33,11 +33,10 @@ use Rattle.store_rows.specs.Schema.{house_schema}
 use Rattle.store_rows.proofs.RowLemmas.{filter_same_on}
 use Rattle.store_rows.proofs.Select.{in_order, typed_part, by_rowid, equals}
 use Rattle.store_items.specs.Standing.{ItemHolds}
-use Rattle.store_items.proofs.Holding.{item_row, rows_hold}
+use Rattle.store_items.proofs.Holding.{item_row}
 use Rattle.store_items.proofs.ItemLemmas.{IsRow, are_rows}
 use Rattle.store_items.proofs.ItemMeaning.{item_shown}
 use Rattle.store_rows.specs.Tables.{tables_in}
-use Rattle.store_rows.proofs.Tested.{all-take}
 use Rattle.store_rows.specs.First.{IsFinite, ShowsFirst, ShowsSome}
 use Rattle.store_rows.proofs.Bounds.{bound_of, from_bound}
 use Rattle.store_rows.proofs.Asked.{Asks, from_second, lists, never, page_passes, stray_passes, under_zero}
@@ -141,11 +140,6 @@ module _ (category from : ℕ) (category_low : category < 2 ^ 32) (from_low : fr
       → map (item_by R) rows ≡ take 50 (filter (keeps_item category from) (map (λ (row : ItemRow). row.item) (items_in old.now.trees)))
   items_shown rows none first = ap (map (item_by R)) first.are ∙ sym (take-map (item_by R) 50 first.all) ∙ ap (take 50) (all_shown first.all none first.shown)
 
-  pub items_held : (rows : List Row) → ShowsFirst 50 items_text params old new rows → (editions : BandTables) → AllByRecursion (FitsBy editions) (items_in old.now.trees) → AllByRecursion (ItemHolds editions R) rows
-  items_held rows first editions fit =
-      let order = in_order test item_shown params table first.all house.shaped.1.1.1.1.0.0 (lists items_text 6 test item_shown by_rowid _ items_is (λ db. refl) old new params first.all house first.shown) in
-      subst (AllByRecursion (ItemHolds editions R)) (sym first.are) (all-take (ItemHolds editions R) 50 first.all (rows_hold editions R (ItemHolds editions R) item_shown test params table first.all (item_row editions R params) order fit))
-
   abbrev keeps_row : ItemRow → Bool
   keeps_row row = keeps_item category from row.item
 
@@ -192,17 +186,6 @@ module _ (category from : ℕ) (category_low : category < 2 ^ 32) (from_low : fr
   no_stray_shown some editions fit =
       some_passes stray_test (col 1 0 ∷ []) by_rowid here table (some.first ∷ some.others) (lists stray_items_text 6 stray_test (col 1 0 ∷ []) by_rowid _ stray_items_is (λ db. refl) old new here _ house some.shown) some.first some.others refl
       (no_stray_first editions 49 table house.shaped.1.1.1.1.0.0 (are_rows old.now house) fit)
-
-  -- where all fit, there is no stray
-  pub no_stray_item : ShowsSome stray_items_text here old new → AllByRecursion (λ (row : ItemRow). ItemFits row.item) (items_in old.now.trees) → ⊥
-  no_stray_item some fits =
-      some_passes stray_test (col 1 0 ∷ []) by_rowid here table (some.first ∷ some.others) (lists stray_items_text 6 stray_test (col 1 0 ∷ []) by_rowid _ stray_items_is (λ db. refl) old new here _ house some.shown) some.first some.others refl
-      (all_both IsRow (λ r. ItemFits (make r).item) (λ r. passes stray_test here r ≡ false) fitting table (are_rows old.now house) (all_unmap (λ (row : ItemRow). ItemFits row.item) make table fits))
-    where
-      fitting : (r : Row) → IsRow r → ItemFits (make r).item → passes stray_test here r ≡ false
-      fitting r is fit =
-          let low : number_in (rowid r) < 2 ^ 32 = omega (arith, fit.terms.item.1) in
-          stray_passes 3 0 category category_low r is.category is.number ∙ never (eqb (number_in (column r 3)) category) (is_negative (rowid r)) (fits_not_negative (rowid r) low)
 
 item_low : (it : Item) → ItemFits it → it.terms.item < 4294967295
 item_low it fit = omega (arith, fit.terms.item.1)

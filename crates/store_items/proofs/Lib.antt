@@ -19,6 +19,7 @@ pub mod PartySales
 pub mod ConsistentRows
 pub mod Small
 pub mod Sold
+pub mod SoundItems
 pub mod IsConsistent
 pub mod TermMeaning
 pub mod UpTo

@@ -1,6 +1,6 @@
 -- The sales of the items that a member sells, and of those that it leads, by number.
 use Rattle.std.proofs.Common.{◌≡◌, ◌≢◌, ◌≤◌, ◌<◌, ◌+◌, ◌^◌, ℕ, zero, suc, Bool, true, false, not, ◌&&◌, ◌||◌, List, [], ◌∷◌, ◌++◌, get_or, map, filter, flat_map, length, Option, Some, None, refl, ap, sym, subst, ◌∙◌, arith, inl, inr, is_lt, Less, IsPermutation}
-use Rattle.std.specs.Prelude.{◌==◌, All, AllPairs, IfSome, is_some, nat_le, nat_lt, unwrap_or}
+use Rattle.std.specs.Prelude.{◌==◌, IfSome, is_some, nat_le, nat_lt, unwrap_or}
 use Rattle.std.specs.List.{AllByRecursion}
 use Rattle.std.specs.List.Sorted.{IsNonDecreasingBy}
 use Rattle.std.specs.Ordering.{nat_cmp}
@@ -31,6 +31,7 @@ use Rattle.store_rows.proofs.RowLemmas.{filter_same_on}
 use Rattle.store_rows.specs.Tables.{tables_in}
 use Rattle.store_rows.proofs.Apart.{ascending_on}
 use Rattle.store_rows.proofs.Tested.{filter_both}
+use Rattle.store_items.specs.LookUps.{AreSales}
 use Rattle.store_items.specs.Rising.{rise_from}
 use Rattle.store_items.proofs.ItemRising.{items_rise, number_of}
 use Rattle.store_rows.proofs.Joined.{IsBelow}
@@ -90,12 +91,6 @@ few_between least (s ∷ sales) low within up =
     let rest = few_between (s.item + 1) sales (let here = within.0.1 in omega (arith, here))
     (all_both (λ (x : Sold). (least ≤ x.item) × (x.item ≤ most_items)) (λ (x : Sold). s.item < x.item) (λ (x : Sold). (s.item + 1 ≤ x.item) × (x.item ≤ most_items)) (λ x here less. (omega (arith, less), here.1)) sales within.1 up.0) up.1 in
     let first = within.0.0 in omega (arith, rest, first)
-
--- what a list of sales promises without the disk
-pub record AreSales (sales : List Sold) : Type 0 where
-  pub fits : All IsSale sales
-  pub apart : AllPairs (λ (a : Sold) (b : Sold). a.item ≢ b.item) sales
-  pub few : length sales ≤ most_items
 
 pub are_sales : (items : List Terms) → AllByRecursion TermsFit items → ItemsRise items → AreSales (flat_map sale_of items)
 are_sales items fits up =

@@ -40,7 +40,7 @@ use Rattle.store_rows.proofs.Select.{by_rowid, equals, in_order, listed, typed_p
 use Rattle.store_rows.proofs.Tested.{filter_both}
 use Rattle.store_rows.proofs.Update.{IsStrict, numbered_passes}
 use Rattle.store_items.specs.Standing.{TermsHold}
-use Rattle.store_items.proofs.Holding.{rows_hold, terms_row}
+use Rattle.store_items.proofs.Holding.{terms_row}
 use Rattle.store_items.proofs.ItemMeaning.{terms_shown}
 use Rattle.store_rows.proofs.ColumnKinds.{kinds_of}
 use Rattle.store_rows.proofs.Ordered.{equals_maybe, within}
@@ -93,12 +93,6 @@ module _ (sql : List ℕ) (test : List Term) (is : AsksTerms sql test) (params :
       let read = reads_as sql params old new house_schema house.schema _ is.0 is.2 is.1 answer h in
       let order = in_order test terms_shown params rows answer house.shaped.1.1.1.1.0.0 (listed 6 test terms_shown by_rowid (overlay old.now.trees []) params answer (read.answer Null)) in
       typed_part (terms_by R) make (λ (row : ItemRow). row.item.terms) keep IsRow test terms_shown params rows answer (λ r. refl) tests (are_rows old.now house) order
-
-  pub terms_held : (editions : BandTables) → AllByRecursion (FitsBy editions) (items_in old.now.trees) → AllByRecursion (TermsHold editions R) answer
-  terms_held editions fit =
-      let read = reads_as sql params old new house_schema house.schema _ is.0 is.2 is.1 answer h in
-      let order = in_order test terms_shown params (old.now.trees 6) answer house.shaped.1.1.1.1.0.0 (listed 6 test terms_shown by_rowid (overlay old.now.trees []) params answer (read.answer Null)) in
-      rows_hold editions R (TermsHold editions R) terms_shown test params (old.now.trees 6) answer (terms_row editions R params) order fit
 
   -- where the items that the query keeps fit
   pub terms_kept : (keep : ItemRow → Bool) → ((r : Row) → IsRow r → passes test params r ≡ keep (make r)) → (editions : BandTables) → FitWhere keep (FitsBy editions) (items_in old.now.trees)

@@ -1,5 +1,6 @@
 -- What the statements on items make of the house.
 use Rattle.std.specs.Prelude.{◌≡◌, ◌≤◌, ◌<◌, ℕ, true, Bool, if◌then◌else◌, [], ◌∷◌, ◌++◌, map, All, Some, None, is_some}
+use Rattle.sqlite_trees.specs.Tree.{Trees}
 use Rattle.sqlite.specs.Effect.{Database}
 use Rattle.proxy.specs.Kept.{Kept, opening_of}
 use Rattle.house_rows.specs.Changed.{is_item, with_terms, with_standing, with_purchase, with_settlement}
@@ -19,8 +20,11 @@ pub record AddsItem (row : ItemRow) (old new : Database) : Type 0 where
       → items_in new.trees ≡ items_in old.trees ++ row ∷ []
 
 -- of each row with the number
+abbrev pub OfItemIn : ℕ → (ItemRow → Type 0) → Trees → Type 0
+OfItemIn item P db = All (λ row. is_item item row ≡ true → P row) (items_in db)
+
 abbrev pub OfItem : ℕ → (ItemRow → Type 0) → Database → Type 0
-OfItem item P db = All (λ row. is_item item row ≡ true → P row) (items_in db.trees)
+OfItem item P db = OfItemIn item P db.trees
 
 -- the item has the standing that its bids now have, if start and reserve are its own, and who leads
 -- has a top

@@ -5,3 +5,4 @@ pub mod Rising
 pub mod ConsistentRows
 pub mod Sales
 pub mod Standing
+pub mod LookUps

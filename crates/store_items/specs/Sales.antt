@@ -3,6 +3,7 @@ use Rattle.proxy.specs.Kept.{opening_of}
 use Rattle.proxy.specs.Opening.{Opening}
 use Rattle.std.specs.Prelude.{◌≡◌, ◌≤◌, ℕ, List, [], ◌∷◌, filter, map, None}
 use Rattle.std.specs.List.{AllByRecursion}
+use Rattle.sqlite_trees.specs.Tree.{Trees}
 use Rattle.sqlite.specs.Effect.{Database}
 use Rattle.house_rows.specs.declared.item.Terms.{Terms}
 use Rattle.house_rows.specs.Fits.{TermsFit}
@@ -42,6 +43,6 @@ abbrev pub StartsFit : List Terms → Database → Type 0
 StartsFit due db = AllByRecursion (λ (t : Terms). OfItem t.item StartFits db) due
 
 -- the terms of the items that a close at the moment takes, which fit
-pub record IsDue (moment : ℕ) (due : List Terms) (db : Database) : Type 0 where
-  pub all : due ≡ map (λ (row : ItemRow). row.item.terms) (filter (λ row. is_due moment row.item.terms) (items_in db.trees))
+pub record IsDue (moment : ℕ) (due : List Terms) (db : Trees) : Type 0 where
+  pub all : due ≡ map (λ (row : ItemRow). row.item.terms) (filter (λ row. is_due moment row.item.terms) (items_in db))
   pub fits : AllByRecursion TermsFit due

@@ -1,18 +1,11 @@
 //! What a close would take.
-ghost use Rattle.std.specs.Prelude.{◌≡◌, ◌&&◌, not, IfOk, OnOk, IsErrOf};
-ghost use Rattle.sqlite.specs.State.{HasCleanDisk};
+ghost use Rattle.std.specs.Prelude.{◌≡◌, not};
 ghost use Rattle.sqlite.specs.Held.{state};
-ghost use Rattle.house_rows.specs.Found.{due_at};
 ghost use Rattle.house_rows.specs.History.{counted};
 ghost use Rattle.house_rows.specs.Items.{close_sells, is_due};
-ghost use Rattle.house_rows.specs.Keeping.{AreSoundBy, FitsBy};
-ghost use Rattle.house_rows.specs.Taken.{FitWhere};
-ghost use Rattle.house_rows.specs.declared.fault.KeepFault.TheVariants.{Damaged};
 ghost use Rattle.store_rows.specs.House.{ServesBy};
-ghost use Rattle.store_rows.specs.ItemRows.{items_in};
-ghost use Rattle.store_rows.specs.Tables.{tables_in};
-ghost use Rattle.store_items.specs.ConsistentRows.{RowsAreConsistent};
-ghost use Rattle.store_rows.specs.Frames.{OnlyReads};
+ghost use Rattle.store_rows.specs.Frames.{Finds};
+ghost use Rattle.store_items.specs.LookUps.{IsDueAt, ItemsFitBy};
 
 use crate::sold_rule::close_sells;
 use crate::terms::due_terms;
@@ -46,19 +39,8 @@ fn due_by<S: Alter>(
     moment: u32,
 ) -> Result<Due, KeepFault>
     requires { ServesBy rules.now.reserves (state S.Store conn.old) }
-    ensures value { HasCleanDisk (state S.Store conn.new)
-        → IfOk result (λ due. due ≡ due_at (tables_in (state S.Store conn.old).now.trees) moment) }
-    ensures is_consistent { HasCleanDisk (state S.Store conn.new)
-        → OnOk result (RowsAreConsistent rules.now.editions (λ row. is_due moment row.item.terms)
-        (state S.Store conn.old).now.trees) }
-    ensures damaged { HasCleanDisk (state S.Store conn.new)
-        → AreSoundBy rules.now.editions (tables_in (state S.Store conn.old).now.trees)
-        → ¬ (IsErrOf result Damaged) }
-    ensures here { HasCleanDisk (state S.Store conn.new)
-        → FitWhere (λ row. is_due moment row.item.terms) (FitsBy rules.now.editions)
-        (items_in (state S.Store conn.old).now.trees)
-        → ¬ (IsErrOf result Damaged) }
-    ensures read { OnlyReads (state S.Store conn.old) (state S.Store conn.new) result }
+    ensures { Finds S.Store conn.old conn.new result (IsDueAt rules.now.editions moment)
+        (ItemsFitBy rules.now.editions (λ row. is_due moment row.item.terms)) }
 {
     let due = due_terms(alloc, conn, rules, moment)?;
     Ok(counts_of(&due))
@@ -74,19 +56,8 @@ pub fn due<S: Alter>(
     moment: u64,
 ) -> Result<Due, KeepFault>
     requires { ServesBy rules.now.reserves (state S.Store conn.old) }
-    ensures value { HasCleanDisk (state S.Store conn.new)
-        → IfOk result (λ due. due ≡ due_at (tables_in (state S.Store conn.old).now.trees) moment) }
-    ensures is_consistent { HasCleanDisk (state S.Store conn.new)
-        → OnOk result (RowsAreConsistent rules.now.editions (λ row. is_due moment row.item.terms)
-        (state S.Store conn.old).now.trees) }
-    ensures damaged { HasCleanDisk (state S.Store conn.new)
-        → AreSoundBy rules.now.editions (tables_in (state S.Store conn.old).now.trees)
-        → ¬ (IsErrOf result Damaged) }
-    ensures here { HasCleanDisk (state S.Store conn.new)
-        → FitWhere (λ row. is_due moment row.item.terms) (FitsBy rules.now.editions)
-        (items_in (state S.Store conn.old).now.trees)
-        → ¬ (IsErrOf result Damaged) }
-    ensures read { OnlyReads (state S.Store conn.old) (state S.Store conn.new) result }
+    ensures { Finds S.Store conn.old conn.new result (IsDueAt rules.now.editions moment)
+        (ItemsFitBy rules.now.editions (λ row. is_due moment row.item.terms)) }
 {
     due_by(alloc, conn, rules, bound_of(moment))
 }

@@ -1,21 +1,17 @@
 //! Look-ups in the table of items.
-ghost use Rattle.std.specs.Prelude.{◌≡◌, ◌<◌, ◌^◌, ◌==◌, ◌&&◌, find, map, option_map, IfOk, IfSome, IsErrOf, Some};
-ghost use Rattle.sqlite.specs.State.{HasCleanDisk};
+ghost use Rattle.std.specs.Prelude.{◌≡◌, ◌<◌, ◌^◌, find, map, option_map, IfOk, IfSome, Some};
 ghost use Rattle.sqlite.specs.Held.{state};
 ghost use Rattle.house_rows.specs.Changed.{is_item};
 ghost use Rattle.house_rows.specs.Found.{auction_of};
 ghost use Rattle.house_rows.specs.Tables.{ItemRow};
-ghost use Rattle.house_rows.specs.Text.{same_text};
 ghost use Rattle.std.specs.List.{AllByRecursion};
 ghost use Rattle.house_rows.specs.Fits.{ItemFits, StandingFits, TermsFit};
 ghost use Rattle.house_rows.specs.Keeping.{FitsBy, IsConsistentBy};
-ghost use Rattle.house_rows.specs.declared.fault.KeepFault.TheVariants.{Damaged};
 ghost use Rattle.store_rows.specs.House.{Serves, ServesBy};
 ghost use Rattle.store_rows.specs.ItemRows.{items_in};
 ghost use Rattle.store_items.specs.ConsistentRows.{RowFitsAt};
-ghost use Rattle.store_rows.specs.Frames.{OnlyReads};
-ghost use Rattle.house_rows.specs.Asks.{HasItem};
-ghost use Rattle.store_rows.specs.Tables.{tables_in};
+ghost use Rattle.store_rows.specs.Frames.{Finds};
+ghost use Rattle.store_items.specs.LookUps.{ItemFitsThere, number_with_lot};
 
 use crate::reads::{first_auction, first_item, item_list};
 use house_rows::{Auction, Item, KeepFault, Terms};
@@ -30,19 +26,12 @@ pub fn item_at<S: Alter>(
     number: u32,
 ) -> Result<Option<Item>, KeepFault>
     requires { ServesBy rules.now.reserves (state S.Store conn.old) }
-    ensures found { HasCleanDisk (state S.Store conn.new)
-        → IfOk result (λ found. found ≡ option_map (λ (row : ItemRow). row.item)
-        (find (is_item number) (items_in (state S.Store conn.old).now.trees))) }
+    ensures finds { Finds S.Store conn.old conn.new result
+        (λ db found. found ≡ option_map (λ (row : ItemRow). row.item)
+        (find (is_item number) (items_in db))) (λ db. RowFitsAt rules.now.editions db number) }
     ensures fits { IfOk result (λ found. IfSome found ItemFits) }
     ensures is_consistent { IfOk result (λ found. IfSome found
         (λ it. IsConsistentBy rules.now.editions it.terms)) }
-    ensures damaged { HasCleanDisk (state S.Store conn.new)
-        → AllByRecursion (FitsBy rules.now.editions) (items_in (state S.Store conn.old).now.trees)
-        → ¬ (IsErrOf result Damaged) }
-    ensures here { HasCleanDisk (state S.Store conn.new)
-        → RowFitsAt rules.now.editions (state S.Store conn.old).now.trees number
-        → ¬ (IsErrOf result Damaged) }
-    ensures read { OnlyReads (state S.Store conn.old) (state S.Store conn.new) result }
 {
     let rows = rows_shown(
         conn,
@@ -60,20 +49,13 @@ pub fn auction_at<S: Alter>(
     number: u32,
 ) -> Result<Option<Auction>, KeepFault>
     requires { ServesBy rules.now.reserves (state S.Store conn.old) }
-    ensures found { HasCleanDisk (state S.Store conn.new)
-        → IfOk result (λ found. found ≡ option_map auction_of
-        (find (is_item number) (items_in (state S.Store conn.old).now.trees))) }
+    ensures finds { Finds S.Store conn.old conn.new result
+        (λ db found. found ≡ option_map auction_of (find (is_item number) (items_in db)))
+        (λ db. RowFitsAt rules.now.editions db number) }
     ensures fits { IfOk result (λ found. IfSome found
         (λ a. TermsFit a.terms × StandingFits a.standing)) }
     ensures is_consistent { IfOk result (λ found. IfSome found
         (λ a. IsConsistentBy rules.now.editions a.terms)) }
-    ensures damaged { HasCleanDisk (state S.Store conn.new)
-        → AllByRecursion (FitsBy rules.now.editions) (items_in (state S.Store conn.old).now.trees)
-        → ¬ (IsErrOf result Damaged) }
-    ensures here { HasCleanDisk (state S.Store conn.new)
-        → RowFitsAt rules.now.editions (state S.Store conn.old).now.trees number
-        → ¬ (IsErrOf result Damaged) }
-    ensures read { OnlyReads (state S.Store conn.old) (state S.Store conn.new) result }
 {
     let rows = rows_shown(
         conn,
@@ -92,18 +74,11 @@ pub fn terms_at<S: Alter>(
     number: u32,
 ) -> Result<Option<Terms>, KeepFault>
     requires { ServesBy rules.now.reserves (state S.Store conn.old) }
-    ensures found { HasCleanDisk (state S.Store conn.new)
-        → IfOk result (λ found. found ≡ option_map (λ (row : ItemRow). row.item.terms)
-        (find (is_item number) (items_in (state S.Store conn.old).now.trees))) }
+    ensures finds { Finds S.Store conn.old conn.new result
+        (λ db found. found ≡ option_map (λ (row : ItemRow). row.item.terms)
+        (find (is_item number) (items_in db))) (λ db. RowFitsAt rules.now.editions db number) }
     ensures fits { IfOk result (λ found. IfSome found TermsFit) }
-    ensures is_consistent { IfOk result (λ found. IfSome found (λ it. IsConsistentBy rules.now.editions it)) }
-    ensures damaged { HasCleanDisk (state S.Store conn.new)
-        → AllByRecursion (FitsBy rules.now.editions) (items_in (state S.Store conn.old).now.trees)
-        → ¬ (IsErrOf result Damaged) }
-    ensures here { HasCleanDisk (state S.Store conn.new)
-        → RowFitsAt rules.now.editions (state S.Store conn.old).now.trees number
-        → ¬ (IsErrOf result Damaged) }
-    ensures read { OnlyReads (state S.Store conn.old) (state S.Store conn.new) result }
+    ensures is_consistent { IfOk result (λ found. IfSome found (IsConsistentBy rules.now.editions)) }
 {
     match auction_at(conn, rules, number)? {
         Some(auction) => Ok(Some(auction.terms)),
@@ -118,20 +93,9 @@ pub fn item_with_lot<S: Alter>(
     lot: &str,
 ) -> Result<Option<u32>, KeepFault>
     requires { Serves (state S.Store conn.old) }
-    ensures found { HasCleanDisk (state S.Store conn.new)
-        → IfOk result (λ found. found ≡ option_map (λ (row : ItemRow). row.item.terms.item)
-        (find (λ row. (row.item.terms.seller == seller) && same_text row.item.lot lot.now)
-        (items_in (state S.Store conn.old).now.trees))) }
-    ensures damaged { HasCleanDisk (state S.Store conn.new)
-        → AllByRecursion (λ (row : ItemRow). ItemFits row.item)
-        (items_in (state S.Store conn.old).now.trees)
-        → ¬ (IsErrOf result Damaged) }
-    ensures here { HasCleanDisk (state S.Store conn.new)
-        → IfSome (option_map (λ (row : ItemRow). row.item.terms.item)
-        (find (λ row. (row.item.terms.seller == seller) && same_text row.item.lot lot.now)
-        (items_in (state S.Store conn.old).now.trees))) (λ n. n < 2 ^ 32)
-        → ¬ (IsErrOf result Damaged) }
-    ensures read { OnlyReads (state S.Store conn.old) (state S.Store conn.new) result }
+    ensures { Finds S.Store conn.old conn.new result
+        (λ db found. found ≡ number_with_lot seller lot.now db)
+        (λ db. IfSome (number_with_lot seller lot.now db) (λ n. n < 2 ^ 32)) }
 {
     let rows = rows_shown(
         conn,
@@ -148,16 +112,12 @@ pub fn all_items<S: Alter>(
     rules: &Rules,
 ) -> Result<Vec<Item>, KeepFault>
     requires { ServesBy rules.now.reserves (state S.Store conn.old) }
-    ensures items { HasCleanDisk (state S.Store conn.new)
-        → IfOk result (λ items. items.items ≡ map (λ (row : ItemRow). row.item)
-        (items_in (state S.Store conn.old).now.trees)) }
+    ensures finds { Finds S.Store conn.old conn.new result
+        (λ db items. items.items ≡ map (λ (row : ItemRow). row.item) (items_in db))
+        (λ db. AllByRecursion (FitsBy rules.now.editions) (items_in db)) }
     ensures fits { IfOk result (λ items. AllByRecursion ItemFits items.items) }
     ensures is_consistent { IfOk result (λ items. AllByRecursion
         (λ it. IsConsistentBy rules.now.editions it.terms) items.items) }
-    ensures damaged { HasCleanDisk (state S.Store conn.new)
-        → AllByRecursion (FitsBy rules.now.editions) (items_in (state S.Store conn.old).now.trees)
-        → ¬ (IsErrOf result Damaged) }
-    ensures read { OnlyReads (state S.Store conn.old) (state S.Store conn.new) result }
 {
     let rows = rows_shown(
         conn,
@@ -175,16 +135,11 @@ pub fn auction_there<S: Alter>(
     item: u32,
 ) -> Result<Auction, KeepFault>
     requires { ServesBy rules.now.reserves (state S.Store conn.old) }
-    ensures found { HasCleanDisk (state S.Store conn.new)
-        → IfOk result (λ a. option_map auction_of
-        (find (is_item item) (items_in (state S.Store conn.old).now.trees)) ≡ Some a) }
+    ensures finds { Finds S.Store conn.old conn.new result
+        (λ db a. option_map auction_of (find (is_item item) (items_in db)) ≡ Some a)
+        (ItemFitsThere rules.now.editions item) }
     ensures fits { IfOk result (λ a. TermsFit a.terms) }
     ensures is_consistent { IfOk result (λ a. IsConsistentBy rules.now.editions a.terms) }
-    ensures damaged { HasCleanDisk (state S.Store conn.new)
-        → RowFitsAt rules.now.editions (state S.Store conn.old).now.trees item
-        → HasItem (tables_in (state S.Store conn.old).now.trees) item
-        → ¬ (IsErrOf result Damaged) }
-    ensures read { OnlyReads (state S.Store conn.old) (state S.Store conn.new) result }
 {
     match auction_at(conn, rules, item) {
         Ok(Some(auction)) => Ok(auction),

@@ -9,7 +9,7 @@
 //! the answer is Damaged.
 #![tactic(auto)]
 
-mod closure;
+mod auction_end;
 mod due_items;
 mod item;
 mod item_reads;
@@ -23,7 +23,7 @@ mod settlement;
 mod sold_rule;
 mod terms;
 
-pub use closure::close;
+pub use auction_end::close;
 pub use due_items::due;
 pub use item::set_standing;
 pub use item_reads::{all_items, auction_at, auction_there, item_at, item_with_lot, terms_at};

@@ -1,23 +1,21 @@
 //! The reserves that a member has sealed. Of an item that has none to show the number alone is read,
 //! and nothing of those after a full list.
-ghost use Rattle.std.specs.Prelude.{◌≡◌, ◌==◌, ◌<◌, ◌^◌, ◌++◌, filter, flat_map, is_some, true, take, IfOk, OnOk, IsErrOf};
+ghost use Rattle.std.specs.Prelude.{◌≡◌, ◌<◌, ◌^◌, ◌++◌, filter, flat_map, is_some, true, take, IfOk, OnOk, IsErrOf};
 ghost use Rattle.std.specs.List.{AllByRecursion};
-ghost use Rattle.sqlite.specs.State.{HasCleanDisk};
 ghost use Rattle.sqlite.specs.Held.{state};
 ghost use Rattle.sqlite_value.specs.Order.{column};
 ghost use Rattle.house_rows.specs.Fits.{OwnReserveFits};
 ghost use Rattle.house_rows.specs.Found.{own_reserves};
-ghost use Rattle.house_rows.specs.Keeping.{FitsBy};
 ghost use Rattle.house_rows.specs.Limits.{most_shown};
-ghost use Rattle.house_rows.specs.Taken.{has_own_reserve, up_to};
+ghost use Rattle.house_rows.specs.Taken.{up_to};
 ghost use Rattle.house_rows.specs.declared.fault.KeepFault.TheVariants.{Damaged};
-ghost use Rattle.store_rows.specs.Frames.{OnlyReads};
+ghost use Rattle.store_rows.specs.Frames.{Finds};
 ghost use Rattle.store_rows.specs.House.{ServesBy};
-ghost use Rattle.store_rows.specs.ItemRows.{items_in};
 ghost use Rattle.store_rows.specs.Rows.{number_in};
 ghost use Rattle.store_rows.specs.Tables.{tables_in};
 ghost use Rattle.store_items.specs.OwnReserves.{reserve_in, reserve_shown};
 ghost use Rattle.store_items.specs.Standing.{TermsHold};
+ghost use Rattle.store_items.specs.LookUps.{ReservesFit};
 
 use crate::reads::terms_read;
 use cents::Cents;
@@ -106,21 +104,10 @@ pub fn reserves_of<S: Alter>(
     from: u64,
 ) -> Result<Vec<OwnReserve>, KeepFault>
     requires { ServesBy rules.now.reserves (state S.Store conn.old) }
-    ensures value { HasCleanDisk (state S.Store conn.new)
-        → IfOk result (λ found. found.items ≡ own_reserves
-        (tables_in (state S.Store conn.old).now.trees) member from) }
+    ensures finds { Finds S.Store conn.old conn.new result
+        (λ db found. found.items ≡ own_reserves (tables_in db) member from)
+        (ReservesFit rules.now.editions member from) }
     ensures fits { IfOk result (λ found. AllByRecursion OwnReserveFits found.items) }
-    ensures damaged { HasCleanDisk (state S.Store conn.new)
-        → AllByRecursion (FitsBy rules.now.editions) (items_in (state S.Store conn.old).now.trees)
-        → ¬ (IsErrOf result Damaged) }
-    ensures here { HasCleanDisk (state S.Store conn.new)
-        → AllByRecursion (λ row. row.item.terms.item < 2 ^ 32) (up_to most_shown
-        (has_own_reserve member from) (filter (λ row. row.item.terms.seller == member)
-        (items_in (state S.Store conn.old).now.trees)))
-        → AllByRecursion (FitsBy rules.now.editions) (take most_shown
-        (filter (has_own_reserve member from) (items_in (state S.Store conn.old).now.trees)))
-        → ¬ (IsErrOf result Damaged) }
-    ensures read { OnlyReads (state S.Store conn.old) (state S.Store conn.new) result }
 {
     let rows = rows_shown(
         conn,

@@ -1,19 +1,18 @@
 //! Lists of items.
-ghost use Rattle.std.specs.Prelude.{◌≡◌, ◌==◌, ◌&&◌, filter, map, nat_le, take, IfOk, IsErrOf};
+ghost use Rattle.std.specs.Prelude.{◌≡◌, ◌==◌, ◌&&◌, filter, map, nat_le, take, IfOk};
 ghost use Rattle.std.specs.List.{AllByRecursion};
 ghost use Rattle.house_rows.specs.Fits.{ItemFits};
 ghost use Rattle.house_rows.specs.Found.{items_in};
-ghost use Rattle.house_rows.specs.Keeping.{FitsBy, IsConsistentBy};
+ghost use Rattle.house_rows.specs.Keeping.{IsConsistentBy};
 ghost use Rattle.house_rows.specs.Taken.{start_of};
 ghost use Rattle.house_rows.specs.Limits.{most_shown};
 ghost use Rattle.house_rows.specs.Tables.{ItemRow};
-ghost use Rattle.house_rows.specs.declared.fault.KeepFault.TheVariants.{Damaged};
-ghost use Rattle.sqlite.specs.State.{HasCleanDisk};
 ghost use Rattle.sqlite.specs.Held.{state};
 ghost use Rattle.store_rows.specs.House.{ServesBy};
 ghost use Rattle.store_rows.specs.ItemRows as stored;
 ghost use Rattle.store_rows.specs.Tables.{tables_in};
-ghost use Rattle.store_rows.specs.Frames.{OnlyReads};
+ghost use Rattle.store_rows.specs.Frames.{Finds};
+ghost use Rattle.store_items.specs.LookUps.{PageFits};
 
 use crate::reads::item_list;
 use house_rows::{Item, KeepFault};
@@ -31,24 +30,14 @@ fn items_from<S: Alter>(
     from: u32,
 ) -> Result<Vec<Item>, KeepFault>
     requires { ServesBy rules.now.reserves (state S.Store conn.old) }
-    ensures items { HasCleanDisk (state S.Store conn.new)
-        → IfOk result (λ items. items.items ≡ take most_shown
+    ensures finds { Finds S.Store conn.old conn.new result
+        (λ db items. items.items ≡ take most_shown
         (filter (λ it. (it.terms.category == category) && nat_le from it.terms.item)
-        (map (λ (row : ItemRow). row.item) (stored.items_in
-        (state S.Store conn.old).now.trees)))) }
+        (map (λ (row : ItemRow). row.item) (stored.items_in db))))
+        (PageFits rules.now.editions category from) }
     ensures fits { IfOk result (λ items. AllByRecursion ItemFits items.items) }
     ensures is_consistent { IfOk result (λ items. AllByRecursion
         (λ it. IsConsistentBy rules.now.editions it.terms) items.items) }
-    ensures damaged { HasCleanDisk (state S.Store conn.new)
-        → AllByRecursion (FitsBy rules.now.editions)
-        (stored.items_in (state S.Store conn.old).now.trees)
-        → ¬ (IsErrOf result Damaged) }
-    ensures reached { HasCleanDisk (state S.Store conn.new)
-        → AllByRecursion (FitsBy rules.now.editions) (take most_shown
-        (filter (λ row. (row.item.terms.category == category) && nat_le from row.item.terms.item)
-        (stored.items_in (state S.Store conn.old).now.trees)))
-        → ¬ (IsErrOf result Damaged) }
-    ensures read { OnlyReads (state S.Store conn.old) (state S.Store conn.new) result }
 {
     let rows = page_rows(
         alloc,
@@ -70,23 +59,12 @@ pub fn items_in<S: Alter>(
     from: u64,
 ) -> Result<Vec<Item>, KeepFault>
     requires { ServesBy rules.now.reserves (state S.Store conn.old) }
-    ensures items { HasCleanDisk (state S.Store conn.new)
-        → IfOk result (λ items. items.items ≡ items_in
-        (tables_in (state S.Store conn.old).now.trees) category from) }
+    ensures finds { Finds S.Store conn.old conn.new result
+        (λ db items. items.items ≡ items_in (tables_in db) category from)
+        (PageFits rules.now.editions category (start_of from)) }
     ensures fits { IfOk result (λ items. AllByRecursion ItemFits items.items) }
     ensures is_consistent { IfOk result (λ items. AllByRecursion
         (λ it. IsConsistentBy rules.now.editions it.terms) items.items) }
-    ensures damaged { HasCleanDisk (state S.Store conn.new)
-        → AllByRecursion (FitsBy rules.now.editions)
-        (stored.items_in (state S.Store conn.old).now.trees)
-        → ¬ (IsErrOf result Damaged) }
-    ensures reached { HasCleanDisk (state S.Store conn.new)
-        → AllByRecursion (FitsBy rules.now.editions) (take most_shown
-        (filter (λ row. (row.item.terms.category == category)
-        && nat_le (start_of from) row.item.terms.item)
-        (stored.items_in (state S.Store conn.old).now.trees)))
-        → ¬ (IsErrOf result Damaged) }
-    ensures read { OnlyReads (state S.Store conn.old) (state S.Store conn.new) result }
 {
     items_from(alloc, conn, rules, category, bound_of(from))
 }

@@ -1,9 +1,9 @@
 //! A purchase at once.
-ghost use Rattle.std.specs.Prelude.{◌≡◌, ◌<◌, ◌^◌, ◌==◌, ◌&&◌, ℕ, false, is_some, not, OnOk, IsErrOf};
+ghost use Rattle.std.specs.Prelude.{◌≡◌, ◌<◌, ◌^◌, ◌==◌, ◌&&◌, false, is_some, not, OnOk, IsErrOf};
 ghost use Rattle.sqlite.specs.State.{HasCleanDisk};
 ghost use Rattle.sqlite.specs.Held.{state};
 ghost use Rattle.house_rows.specs.Tables.{band_tables};
-ghost use Rattle.house_rows.specs.Asks.{ChangeFits, PurchaseFits};
+ghost use Rattle.house_rows.specs.Asks.{ChangeFits};
 ghost use Rattle.house_rows.specs.declared.change.Change.TheVariants.{Buy};
 ghost use Rattle.house_rows.specs.declared.fault.KeepFault.TheVariants.{Damaged};
 ghost use Rattle.store_rows.specs.House.{IsBegun, ServesBy};
@@ -12,8 +12,9 @@ ghost use Rattle.store_rows.specs.Rows.{reserves_in};
 ghost use Rattle.store_rows.specs.Tables.{Changes, IsNumbered, Rests, tables_in};
 ghost use Rattle.store_items.specs.ConsistentRows.{HasStandingItem, RowFitsAt};
 ghost use Rattle.store_items.specs.Sales.{IsUnbid};
-ghost use Rattle.store_rows.specs.Frames.{OnlyReads, WritesMany};
+ghost use Rattle.store_rows.specs.Frames.{Finds, WritesMany};
 ghost use Rattle.store_rows.specs.Commits.{Commits};
+ghost use Rattle.store_items.specs.LookUps.{HasUnbidItem, PurchaseFitsThere};
 
 use crate::item::set_bought;
 use crate::item_reads::auction_there;
@@ -40,16 +41,9 @@ fn check_unbid<S: Alter>(
     item: u32,
 ) -> Result<(), KeepFault>
     requires { ServesBy rules.now.reserves (state S.Store conn.old) }
-    ensures there { HasCleanDisk (state S.Store conn.new)
-        → OnOk result (HasStandingItem rules.now.editions (state S.Store conn.old).now.trees item) }
-    ensures unbid { HasCleanDisk (state S.Store conn.new)
-        → OnOk result (OfItem item IsUnbid (state S.Store conn.old).now) }
-    ensures damaged { HasCleanDisk (state S.Store conn.new)
-        → RowFitsAt rules.now.editions (state S.Store conn.old).now.trees item
-        → (moment buyer price : ℕ)
-        → PurchaseFits (tables_in (state S.Store conn.old).now.trees) moment item buyer price
-        → ¬ (IsErrOf result Damaged) }
-    ensures read { OnlyReads (state S.Store conn.old) (state S.Store conn.new) result }
+    ensures { Finds S.Store conn.old conn.new result
+        (λ db _. HasUnbidItem rules.now.editions item db)
+        (PurchaseFitsThere rules.now.editions item) }
 {
     let auction = auction_there(conn, rules, item)?;
     if is_unbid(&auction) {

@@ -1,25 +1,17 @@
 //! The sales of a member.
-ghost use Rattle.std.specs.Prelude.{◌≡◌, ◌≢◌, ◌==◌, ◌≤◌, ◌++◌, All, AllPairs, false, flat_map, length, IfOk, OnOk, IsErrOf};
-ghost use Rattle.std.specs.List.{AllByRecursion, list_any};
+ghost use Rattle.std.specs.Prelude.{◌≡◌, ◌==◌, ◌≤◌, ◌++◌, false, flat_map, IfOk, OnOk, IsErrOf};
 ghost use Rattle.std.specs.List.Sorted.{IsNonDecreasingBy, IsPermutation};
-ghost use Rattle.sqlite.specs.State.{HasCleanDisk};
 ghost use Rattle.sqlite.specs.Held.{state};
-ghost use Rattle.settle.specs.Statement.{IsSale, is_party};
-ghost use Rattle.proxy.specs.Bids.{is_leader};
 ghost use Rattle.house_rows.specs.Found.{sales_to};
-ghost use Rattle.house_rows.specs.Keeping.{AreSoundBy, FitsBy};
-ghost use Rattle.house_rows.specs.Taken.{FitWhere, may_be_party};
-ghost use Rattle.house_rows.specs.Limits.{most_items};
+ghost use Rattle.house_rows.specs.Taken.{may_be_party};
 ghost use Rattle.house_rows.specs.Pages.{sale_of};
 ghost use Rattle.house_rows.specs.declared.fault.KeepFault.TheVariants.{Damaged};
 ghost use Rattle.house_rows.specs.declared.item.Terms.{Terms as TermsRow};
 ghost use Rattle.store_rows.specs.House.{ServesBy};
-ghost use Rattle.store_rows.specs.ItemRows.{items_in};
-ghost use Rattle.store_rows.specs.Tables.{tables_in};
 ghost use Rattle.store_rows.specs.Joined.{found_of};
 ghost use Rattle.store_items.specs.Rising.{rise_from};
-ghost use Rattle.store_items.specs.ConsistentRows.{RowsAreConsistent};
-ghost use Rattle.store_rows.specs.Frames.{OnlyReads};
+ghost use Rattle.store_rows.specs.Frames.{Finds};
+ghost use Rattle.store_items.specs.LookUps.{AreSales, AreSalesTo, ItemsFitBy};
 
 use crate::item_reads::all_items;
 use crate::terms::{terms_led_by, terms_of_seller};
@@ -107,26 +99,10 @@ fn sales_of_member<S: Alter>(
 ) -> Result<Vec<Sold>, KeepFault>
     requires serves { ServesBy rules.now.reserves (state S.Store conn.old) }
     requires numbered { 1 ≤ member }
-    ensures value { HasCleanDisk (state S.Store conn.new)
-        → IfOk result (λ sales. sales.items ≡ sales_to
-        (tables_in (state S.Store conn.old).now.trees) member) }
-    ensures is_consistent { HasCleanDisk (state S.Store conn.new)
-        → OnOk result (RowsAreConsistent rules.now.editions
-        (λ row. list_any (is_party member) (sale_of row.item.terms))
-        (state S.Store conn.old).now.trees) }
-    ensures fits { IfOk result (λ sales. All IsSale sales.items) }
-    ensures apart { IfOk result (λ sales. AllPairs (λ a b. a.item ≢ b.item) sales.items) }
-    ensures few { IfOk result (λ sales. length sales.items ≤ most_items) }
-    ensures damaged { HasCleanDisk (state S.Store conn.new)
-        → AreSoundBy rules.now.editions (tables_in (state S.Store conn.old).now.trees)
-        → ¬ (IsErrOf result Damaged) }
-    ensures here { HasCleanDisk (state S.Store conn.new)
-        → FitWhere (λ row. row.item.terms.seller == member) (FitsBy rules.now.editions)
-        (items_in (state S.Store conn.old).now.trees)
-        → FitWhere (λ row. is_leader row.item.terms.leader member) (FitsBy rules.now.editions)
-        (items_in (state S.Store conn.old).now.trees)
-        → ¬ (IsErrOf result Damaged) }
-    ensures read { OnlyReads (state S.Store conn.old) (state S.Store conn.new) result }
+    ensures finds { Finds S.Store conn.old conn.new result
+        (λ db sales. AreSalesTo rules.now.editions member db sales.items)
+        (ItemsFitBy rules.now.editions (may_be_party member)) }
+    ensures fits { IfOk result (λ sales. AreSales sales.items) }
 {
     let sold = terms_of_seller(alloc, conn, rules, member)?;
     let led = terms_led_by(alloc, conn, rules, member)?;
@@ -145,23 +121,10 @@ fn sales_of_nobody<S: Alter>(
     rules: &Rules,
 ) -> Result<Vec<Sold>, KeepFault>
     requires { ServesBy rules.now.reserves (state S.Store conn.old) }
-    ensures value { HasCleanDisk (state S.Store conn.new)
-        → IfOk result (λ sales. sales.items ≡ sales_to
-        (tables_in (state S.Store conn.old).now.trees) 0) }
-    ensures is_consistent { HasCleanDisk (state S.Store conn.new)
-        → OnOk result (RowsAreConsistent rules.now.editions
-        (λ row. list_any (is_party 0) (sale_of row.item.terms))
-        (state S.Store conn.old).now.trees) }
-    ensures fits { IfOk result (λ sales. All IsSale sales.items) }
-    ensures apart { IfOk result (λ sales. AllPairs (λ a b. a.item ≢ b.item) sales.items) }
-    ensures few { IfOk result (λ sales. length sales.items ≤ most_items) }
-    ensures damaged { HasCleanDisk (state S.Store conn.new)
-        → AreSoundBy rules.now.editions (tables_in (state S.Store conn.old).now.trees)
-        → ¬ (IsErrOf result Damaged) }
-    ensures here { HasCleanDisk (state S.Store conn.new)
-        → AllByRecursion (FitsBy rules.now.editions) (items_in (state S.Store conn.old).now.trees)
-        → ¬ (IsErrOf result Damaged) }
-    ensures read { OnlyReads (state S.Store conn.old) (state S.Store conn.new) result }
+    ensures finds { Finds S.Store conn.old conn.new result
+        (λ db sales. AreSalesTo rules.now.editions 0 db sales.items)
+        (ItemsFitBy rules.now.editions (may_be_party 0)) }
+    ensures fits { IfOk result (λ sales. AreSales sales.items) }
 {
     all_items(alloc, conn, rules)?;
     Ok(Vec::new(alloc))
@@ -176,24 +139,10 @@ pub fn sales_to<S: Alter>(
     member: u32,
 ) -> Result<Vec<Sold>, KeepFault>
     requires { ServesBy rules.now.reserves (state S.Store conn.old) }
-    ensures value { HasCleanDisk (state S.Store conn.new)
-        → IfOk result (λ sales. sales.items ≡ sales_to
-        (tables_in (state S.Store conn.old).now.trees) member) }
-    ensures is_consistent { HasCleanDisk (state S.Store conn.new)
-        → OnOk result (RowsAreConsistent rules.now.editions
-        (λ row. list_any (is_party member) (sale_of row.item.terms))
-        (state S.Store conn.old).now.trees) }
-    ensures fits { IfOk result (λ sales. All IsSale sales.items) }
-    ensures apart { IfOk result (λ sales. AllPairs (λ a b. a.item ≢ b.item) sales.items) }
-    ensures few { IfOk result (λ sales. length sales.items ≤ most_items) }
-    ensures damaged { HasCleanDisk (state S.Store conn.new)
-        → AreSoundBy rules.now.editions (tables_in (state S.Store conn.old).now.trees)
-        → ¬ (IsErrOf result Damaged) }
-    ensures here { HasCleanDisk (state S.Store conn.new)
-        → FitWhere (may_be_party member) (FitsBy rules.now.editions)
-        (items_in (state S.Store conn.old).now.trees)
-        → ¬ (IsErrOf result Damaged) }
-    ensures read { OnlyReads (state S.Store conn.old) (state S.Store conn.new) result }
+    ensures finds { Finds S.Store conn.old conn.new result
+        (λ db sales. AreSalesTo rules.now.editions member db sales.items)
+        (ItemsFitBy rules.now.editions (may_be_party member)) }
+    ensures fits { IfOk result (λ sales. AreSales sales.items) }
 {
     if member == 0 {
         sales_of_nobody(alloc, conn, rules)

@@ -3,7 +3,7 @@ ghost use Rattle.std.specs.Prelude.{◌≡◌, ◌<◌, ◌^◌, false, OnOk, Is
 ghost use Rattle.sqlite.specs.State.{HasCleanDisk};
 ghost use Rattle.sqlite.specs.Held.{state};
 ghost use Rattle.house_rows.specs.Tables.{band_tables};
-ghost use Rattle.house_rows.specs.Asks.{ChangeFits, HasItem};
+ghost use Rattle.house_rows.specs.Asks.{ChangeFits};
 ghost use Rattle.house_rows.specs.declared.change.Change.TheVariants.{Settle};
 ghost use Rattle.house_rows.specs.declared.fault.KeepFault.TheVariants.{Damaged};
 ghost use Rattle.store_rows.specs.House.{IsBegun, ServesBy};
@@ -12,8 +12,9 @@ ghost use Rattle.store_rows.specs.Rows.{reserves_in};
 ghost use Rattle.store_rows.specs.Tables.{Changes, IsNumbered, Rests, tables_in};
 ghost use Rattle.store_items.specs.ConsistentRows.{HasStandingItem, RowFitsAt};
 ghost use Rattle.store_items.specs.Sales.{StartFits};
-ghost use Rattle.store_rows.specs.Frames.{OnlyReads, WritesMany};
+ghost use Rattle.store_rows.specs.Frames.{Finds, WritesMany};
 ghost use Rattle.store_rows.specs.Commits.{Commits};
+ghost use Rattle.store_items.specs.LookUps.{HasStartingItem, ItemFitsThere};
 
 use crate::item::set_settled;
 use crate::item_reads::auction_there;
@@ -28,15 +29,9 @@ fn check_terms<S: Alter>(
     item: u32,
 ) -> Result<(), KeepFault>
     requires { ServesBy rules.now.reserves (state S.Store conn.old) }
-    ensures there { HasCleanDisk (state S.Store conn.new)
-        → OnOk result (HasStandingItem rules.now.editions (state S.Store conn.old).now.trees item) }
-    ensures fits { HasCleanDisk (state S.Store conn.new)
-        → OnOk result (OfItem item StartFits (state S.Store conn.old).now) }
-    ensures damaged { HasCleanDisk (state S.Store conn.new)
-        → RowFitsAt rules.now.editions (state S.Store conn.old).now.trees item
-        → HasItem (tables_in (state S.Store conn.old).now.trees) item
-        → ¬ (IsErrOf result Damaged) }
-    ensures read { OnlyReads (state S.Store conn.old) (state S.Store conn.new) result }
+    ensures { Finds S.Store conn.old conn.new result
+        (λ db _. HasStartingItem rules.now.editions item db)
+        (ItemFitsThere rules.now.editions item) }
 {
     auction_there(conn, rules, item)?;
     Ok(())

@@ -1,18 +1,16 @@
 //! Items without their texts, by number.
-ghost use Rattle.std.specs.Prelude.{◌≡◌, ◌==◌, filter, map, IfOk, IsErrOf};
+ghost use Rattle.std.specs.Prelude.{◌≡◌, ◌==◌, filter, map, IfOk};
 ghost use Rattle.std.specs.List.{AllByRecursion};
-ghost use Rattle.sqlite.specs.State.{HasCleanDisk};
 ghost use Rattle.sqlite.specs.Held.{state};
 ghost use Rattle.proxy.specs.Bids.{is_leader};
 ghost use Rattle.house_rows.specs.Fits.{TermsFit};
 ghost use Rattle.house_rows.specs.Items.{is_due};
-ghost use Rattle.house_rows.specs.Keeping.{FitsBy, IsConsistentBy};
-ghost use Rattle.house_rows.specs.Taken.{FitWhere};
+ghost use Rattle.house_rows.specs.Keeping.{IsConsistentBy};
 ghost use Rattle.house_rows.specs.Tables.{ItemRow};
-ghost use Rattle.house_rows.specs.declared.fault.KeepFault.TheVariants.{Damaged};
 ghost use Rattle.store_rows.specs.House.{ServesBy};
 ghost use Rattle.store_rows.specs.ItemRows.{items_in};
-ghost use Rattle.store_rows.specs.Frames.{OnlyReads};
+ghost use Rattle.store_rows.specs.Frames.{Finds};
+ghost use Rattle.store_items.specs.LookUps.{ItemsFitBy};
 
 use crate::reads::terms_list;
 use house_rows::{KeepFault, Terms};
@@ -28,21 +26,13 @@ pub fn terms_of_seller<S: Alter>(
     seller: u32,
 ) -> Result<Vec<Terms>, KeepFault>
     requires { ServesBy rules.now.reserves (state S.Store conn.old) }
-    ensures terms { HasCleanDisk (state S.Store conn.new)
-        → IfOk result (λ terms. terms.items ≡ map (λ (row : ItemRow). row.item.terms)
-        (filter (λ row. row.item.terms.seller == seller)
-        (items_in (state S.Store conn.old).now.trees))) }
+    ensures finds { Finds S.Store conn.old conn.new result
+        (λ db terms. terms.items ≡ map (λ (row : ItemRow). row.item.terms)
+        (filter (λ row. row.item.terms.seller == seller) (items_in db)))
+        (ItemsFitBy rules.now.editions (λ row. row.item.terms.seller == seller)) }
     ensures fits { IfOk result (λ terms. AllByRecursion TermsFit terms.items) }
     ensures is_consistent { IfOk result (λ terms. AllByRecursion
         (IsConsistentBy rules.now.editions) terms.items) }
-    ensures damaged { HasCleanDisk (state S.Store conn.new)
-        → AllByRecursion (FitsBy rules.now.editions) (items_in (state S.Store conn.old).now.trees)
-        → ¬ (IsErrOf result Damaged) }
-    ensures here { HasCleanDisk (state S.Store conn.new)
-        → FitWhere (λ row. row.item.terms.seller == seller) (FitsBy rules.now.editions)
-        (items_in (state S.Store conn.old).now.trees)
-        → ¬ (IsErrOf result Damaged) }
-    ensures read { OnlyReads (state S.Store conn.old) (state S.Store conn.new) result }
 {
     let rows = rows_shown(
         conn,
@@ -60,21 +50,13 @@ pub(crate) fn terms_led_by<S: Alter>(
     member: u32,
 ) -> Result<Vec<Terms>, KeepFault>
     requires { ServesBy rules.now.reserves (state S.Store conn.old) }
-    ensures terms { HasCleanDisk (state S.Store conn.new)
-        → IfOk result (λ terms. terms.items ≡ map (λ (row : ItemRow). row.item.terms)
-        (filter (λ row. is_leader row.item.terms.leader member)
-        (items_in (state S.Store conn.old).now.trees))) }
+    ensures finds { Finds S.Store conn.old conn.new result
+        (λ db terms. terms.items ≡ map (λ (row : ItemRow). row.item.terms)
+        (filter (λ row. is_leader row.item.terms.leader member) (items_in db)))
+        (ItemsFitBy rules.now.editions (λ row. is_leader row.item.terms.leader member)) }
     ensures fits { IfOk result (λ terms. AllByRecursion TermsFit terms.items) }
     ensures is_consistent { IfOk result (λ terms. AllByRecursion
         (IsConsistentBy rules.now.editions) terms.items) }
-    ensures damaged { HasCleanDisk (state S.Store conn.new)
-        → AllByRecursion (FitsBy rules.now.editions) (items_in (state S.Store conn.old).now.trees)
-        → ¬ (IsErrOf result Damaged) }
-    ensures here { HasCleanDisk (state S.Store conn.new)
-        → FitWhere (λ row. is_leader row.item.terms.leader member) (FitsBy rules.now.editions)
-        (items_in (state S.Store conn.old).now.trees)
-        → ¬ (IsErrOf result Damaged) }
-    ensures read { OnlyReads (state S.Store conn.old) (state S.Store conn.new) result }
 {
     let rows = rows_shown(
         conn,
@@ -93,21 +75,13 @@ pub(crate) fn due_terms<S: Alter>(
     moment: u32,
 ) -> Result<Vec<Terms>, KeepFault>
     requires { ServesBy rules.now.reserves (state S.Store conn.old) }
-    ensures terms { HasCleanDisk (state S.Store conn.new)
-        → IfOk result (λ terms. terms.items ≡ map (λ (row : ItemRow). row.item.terms)
-        (filter (λ row. is_due moment row.item.terms)
-        (items_in (state S.Store conn.old).now.trees))) }
+    ensures finds { Finds S.Store conn.old conn.new result
+        (λ db terms. terms.items ≡ map (λ (row : ItemRow). row.item.terms)
+        (filter (λ row. is_due moment row.item.terms) (items_in db)))
+        (ItemsFitBy rules.now.editions (λ row. is_due moment row.item.terms)) }
     ensures fits { IfOk result (λ terms. AllByRecursion TermsFit terms.items) }
     ensures is_consistent { IfOk result (λ terms. AllByRecursion
         (IsConsistentBy rules.now.editions) terms.items) }
-    ensures damaged { HasCleanDisk (state S.Store conn.new)
-        → AllByRecursion (FitsBy rules.now.editions) (items_in (state S.Store conn.old).now.trees)
-        → ¬ (IsErrOf result Damaged) }
-    ensures here { HasCleanDisk (state S.Store conn.new)
-        → FitWhere (λ row. is_due moment row.item.terms) (FitsBy rules.now.editions)
-        (items_in (state S.Store conn.old).now.trees)
-        → ¬ (IsErrOf result Damaged) }
-    ensures read { OnlyReads (state S.Store conn.old) (state S.Store conn.new) result }
 {
     // An end below 0 is none of ours, so it never comes.
     let rows = rows_shown(

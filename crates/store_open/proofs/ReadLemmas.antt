@@ -26,7 +26,7 @@ use Rattle.store_rows.specs.Rows.{bands_in, categories_in, edition_rows_in, hous
 use Rattle.store_rows.specs.declared.edition.LaterBandRow.{LaterBandRow}
 use Rattle.store_rows.specs.declared.reserve.ReserveRow.{ReserveRow}
 use Rattle.store_rows.specs.Tables.{IsAtRest, IsNumbered, house_row_in, settings_in, tables_in}
-use Rattle.store_house.specs.Opening.{AreNumbered, AreSet, HasEditions, HasReserves, HasSettings, HaveNumbers}
+use Rattle.store_house.specs.Opening.{AreNumbered, AreSet, HasEditions, HasRead, HasReserves, HasSettings, HaveNumbers}
 use Rattle.store_open.proofs.EditionLemmas.{are_numbered, are_tables, none_over}
 
 abbrev pairs : List BandRow → List (ℕ × ℕ)
@@ -113,23 +113,20 @@ pub record WasRead (was is : State) (editions : BandTables) (clock : ℕ) (count
   pub committed : is.committed ≡ is.now
 
 pub was_read : (was is : State) (editions : BandTables) (clock : ℕ) (counts : Counts) (reserves : List ReserveRow) → IsTrue was.is_open × IsHouse was.now → was.now ≡ was.committed → IsUnchanged was is
-    → HasSettings was.now.trees editions.settings clock → HasEditions was.now.trees editions.later → HaveNumbers was.now.trees counts → HasReserves was.now.trees reserves → WasRead was is editions clock counts reserves
-was_read was is editions clock counts reserves house settled unchanged set later have sealed =
+    → HasRead was.now.trees editions clock counts reserves → WasRead was is editions clock counts reserves
+was_read was is editions clock counts reserves house settled unchanged has =
     let now = unchanged.0.now_is in
     let committed = unchanged.0.committed_is in
-    let set_now = subst (λ (d : Database). HasSettings d.trees editions.settings clock) (sym now) set in
-    let later_now = subst (λ (d : Database). HasEditions d.trees editions.later) (sym now) later in
-    let sealed_now = subst (λ (d : Database). HasReserves d.trees reserves) (sym now) sealed in
-    let have_now = subst (λ (d : Database). HaveNumbers d.trees counts) (sym now) have in
+    let still = subst (λ (d : Database). HasRead d.trees editions clock counts reserves) (sym now) has in
     record {
-      rests = record { is_open = unchanged.0.is_open; house = subst IsHouse (sym now) house.1; settled = now ∙ settled ∙ sym committed; numbered = numbered is.now.trees editions.settings clock reserves editions.later set_now have_now.numbered sealed_now later_now };
-      editions_are = are_tables is.now.trees editions set_now.settings_are later_now;
-      counts_are = counts_are is.now.trees counts have_now;
-      clock_is = clock_of is.now.trees ∙ set_now.clock_is;
-      reserves_are = sealed_now.reserves_are;
-      row = set_now.row;
-      numbered = have_now.numbered;
-      set = later_now.set;
+      rests = record { is_open = unchanged.0.is_open; house = subst IsHouse (sym now) house.1; settled = now ∙ settled ∙ sym committed; numbered = numbered is.now.trees editions.settings clock reserves editions.later still.has_settings still.have_numbers.numbered still.has_reserves still.has_editions };
+      editions_are = are_tables is.now.trees editions still.has_settings.settings_are still.has_editions;
+      counts_are = counts_are is.now.trees counts still.have_numbers;
+      clock_is = clock_of is.now.trees ∙ still.has_settings.clock_is;
+      reserves_are = still.has_reserves.reserves_are;
+      row = still.has_settings.row;
+      numbered = still.have_numbers.numbered;
+      set = still.has_editions.set;
       same = now;
       committed = committed ∙ sym settled ∙ sym now;
     }

@@ -1,5 +1,5 @@
 -- What an upgrade makes of a house of version 1.
-use Rattle.std.proofs.Common.{◌≡◌, ◌≢◌, ◌≤◌, ◌==◌, ℕ, true, List, [], ◌∷◌, ◌++◌, drop, map, find, is_some, length, option_map, IfSome, IsTrue, Option, Some, None, unwrap_or, refl, sym, ap, subst, ◌∙◌, inl, inr, arith}
+use Rattle.std.proofs.Common.{◌≡◌, ◌≢◌, ◌≤◌, ◌==◌, true, List, [], ◌∷◌, ◌++◌, drop, map, find, is_some, length, option_map, IfSome, IsTrue, Option, Some, None, unwrap_or, refl, sym, ap, subst, ◌∙◌, inl, inr, arith}
 use Rattle.std.specs.List.{AllByRecursion}
 use Rattle.sqlite_trees.specs.Tree.{Trees}
 use Rattle.sqlite_trees.specs.View.{IsClean, IsQuiet, IsRolledBack as IsUndone}
@@ -22,7 +22,7 @@ use Rattle.store_rows.specs.declared.reserve.ReserveRow.{ReserveRow}
 use Rattle.store_rows.specs.Schema.{first_schema, house_schema}
 use Rattle.store_rows.specs.Tables.{house_row_in, settings_in, tables_in}
 use Rattle.store_rows.specs.declared.house.HouseRow.{HouseRow}
-use Rattle.store_house.specs.Opening.{AreNumbered, AreReserved, AreSet, Follows, FollowsOrGrows, IsFirstSetUp, IsSetUp, IsSoundFirst, IsSoundHouse, Upgraded, Upgrades, first_tables_in}
+use Rattle.store_house.specs.Opening.{AreNumbered, AreReserved, AreSet, Follows, FollowsOrGrows, IsFirstSetUp, IsReadable, IsSetUp, IsSoundFirst, IsSoundHouse, Upgraded, Upgrades, first_tables_in, version_in}
 
 -- ---- the two writes
 
@@ -33,9 +33,6 @@ front P (x ∷ xs) ys all = (all.0, front P xs ys all.1)
 both_kept : (old mid new : Trees) (tables : List Table) → AllByRecursion (λ t. mid t.tree ≡ old t.tree) tables → AllByRecursion (λ t. t.tree ≢ 0 → new t.tree ≡ mid t.tree) tables → AllByRecursion (λ t. t.tree ≢ 0 → new t.tree ≡ old t.tree) tables
 both_kept old mid new [] kept others = tt
 both_kept old mid new (t ∷ tables) kept others = ((λ apart. others.0 apart ∙ kept.0), both_kept old mid new tables kept.1 others.1)
-
-abbrev pub version_in : Trees → Option ℕ
-version_in db = option_map (λ (h : HouseRow). h.version) (find (λ (h : HouseRow). h.id == 1) (houses_in db))
 
 pub upgrades : (old mid new : Database) → IsFirstHouse old → AddsTables old mid → version_in mid.trees ≡ Some 1 → SetsVersion 2 mid new → Upgrades old.trees new
 upgrades old mid new first adds version sets =
@@ -242,4 +239,4 @@ pub sound_first_at : (db held : Database) → IsFirstHouse db → db.trees ≡ h
 sound_first_at db held first trees sound = record { house = first; set_up = subst IsFirstSetUp (sym trees) sound.set_up; numbered = subst AreNumbered (sym trees) sound.numbered }
 
 pub sound_house_at : (db held : Database) → IsHouse db → db.trees ≡ held.trees → IsSoundHouse held → IsSoundHouse db
-sound_house_at db held house trees sound = record { house = house; set_up = subst IsSetUp (sym trees) sound.set_up; numbered = subst AreNumbered (sym trees) sound.numbered; reserved = subst AreReserved (sym trees) sound.reserved; set = subst AreSet (sym trees) sound.set }
+sound_house_at db held house trees sound = record { house = house; readable = subst IsReadable (sym trees) sound.readable }

@@ -5,7 +5,7 @@ ghost use Rattle.sqlite.specs.State.{HasCleanDisk};
 ghost use Rattle.sqlite.specs.Held.{state};
 ghost use Rattle.house_rows.specs.declared.fault.KeepFault.TheVariants.{Damaged};
 ghost use Rattle.store_rows.specs.Fitting.{EditionRowFits, LaterBandRowFits};
-ghost use Rattle.store_rows.specs.Frames.{OnlyReads, WritesOnce};
+ghost use Rattle.store_rows.specs.Frames.{Finds, WritesOnce};
 ghost use Rattle.store_rows.specs.House.{IsBegun, Serves};
 ghost use Rattle.store_rows.specs.Rows.{edition_rows_in, later_bands_in};
 ghost use Rattle.store_open.specs.Setting.{AddsEdition, AddsLaterBand};
@@ -21,13 +21,10 @@ pub(crate) fn all_editions<S: Alter>(
     conn: &mut Connection<S>,
 ) -> Result<Vec<EditionRow>, KeepFault>
     requires { Serves (state S.Store conn.old) }
-    ensures editions { HasCleanDisk (state S.Store conn.new)
-        → IfOk result (λ all. all.items ≡ edition_rows_in (state S.Store conn.old).now.trees) }
+    ensures finds { Finds S.Store conn.old conn.new result
+        (λ db all. all.items ≡ edition_rows_in db)
+        (λ db. AllByRecursion EditionRowFits (edition_rows_in db)) }
     ensures fits { IfOk result (λ all. AllByRecursion EditionRowFits all.items) }
-    ensures damaged { HasCleanDisk (state S.Store conn.new)
-        → AllByRecursion EditionRowFits (edition_rows_in (state S.Store conn.old).now.trees)
-        → ¬ (IsErrOf result Damaged) }
-    ensures read { OnlyReads (state S.Store conn.old) (state S.Store conn.new) result }
 {
     let rows = rows_shown(
         conn,
@@ -43,13 +40,10 @@ pub(crate) fn all_later_bands<S: Alter>(
     conn: &mut Connection<S>,
 ) -> Result<Vec<LaterBandRow>, KeepFault>
     requires { Serves (state S.Store conn.old) }
-    ensures bands { HasCleanDisk (state S.Store conn.new)
-        → IfOk result (λ all. all.items ≡ later_bands_in (state S.Store conn.old).now.trees) }
+    ensures finds { Finds S.Store conn.old conn.new result
+        (λ db all. all.items ≡ later_bands_in db)
+        (λ db. AllByRecursion LaterBandRowFits (later_bands_in db)) }
     ensures fits { IfOk result (λ all. AllByRecursion LaterBandRowFits all.items) }
-    ensures damaged { HasCleanDisk (state S.Store conn.new)
-        → AllByRecursion LaterBandRowFits (later_bands_in (state S.Store conn.old).now.trees)
-        → ¬ (IsErrOf result Damaged) }
-    ensures read { OnlyReads (state S.Store conn.old) (state S.Store conn.new) result }
 {
     let rows = rows_shown(
         conn,

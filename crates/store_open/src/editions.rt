@@ -1,13 +1,12 @@
 //! The editions of the band table of a house as it is opened.
 ghost use Rattle.std.specs.Prelude.{◌≡◌, ◌<◌, ◌+◌, ◌++◌, ◌∷◌, ◌&&◌, [], nat_le, length, IfOk, OnOk, IsErrOf};
 ghost use Rattle.std.specs.List.{AllByRecursion, list_all};
-ghost use Rattle.sqlite.specs.State.{HasCleanDisk};
 ghost use Rattle.sqlite.specs.Held.{state};
 ghost use Rattle.steps.specs.Table.{IsBandTable};
 ghost use Rattle.house_rows.specs.Keeping.{AreInTurn};
 ghost use Rattle.house_rows.specs.Limits.{most_editions};
 ghost use Rattle.house_rows.specs.declared.fault.KeepFault.TheVariants.{Damaged, Store};
-ghost use Rattle.store_rows.specs.Frames.{OnlyReads};
+ghost use Rattle.store_rows.specs.Frames.{Finds};
 ghost use Rattle.store_rows.specs.House.{Serves};
 ghost use Rattle.store_rows.specs.Tables.{bands_at, editions_by};
 ghost use Rattle.store_house.specs.Opening.{AreSet, HasEditions};
@@ -134,13 +133,9 @@ pub(crate) fn read_editions<S: Alter>(
     settings: Settings,
 ) -> Result<Editions, KeepFault>
     requires { Serves (state S.Store conn.old) }
+    ensures finds { Finds S.Store conn.old conn.new result
+        (λ db editions. HasEditions db editions.later) AreSet }
     ensures settings { IfOk result (λ editions. editions.settings ≡ settings) }
-    ensures editions { HasCleanDisk (state S.Store conn.new)
-        → IfOk result (λ editions. HasEditions (state S.Store conn.old).now.trees editions.later) }
-    ensures damaged { HasCleanDisk (state S.Store conn.new)
-        → AreSet (state S.Store conn.old).now.trees
-        → ¬ (IsErrOf result Damaged) }
-    ensures read { OnlyReads (state S.Store conn.old) (state S.Store conn.new) result }
 {
     let rows = all_editions(alloc, conn)?;
     let bands = all_later_bands(alloc, conn)?;

@@ -13,8 +13,8 @@ ghost use Rattle.store_rows.specs.Fitting.{HouseRowFits};
 ghost use Rattle.store_rows.specs.House.{Serves};
 ghost use Rattle.store_rows.specs.Rows.{reserves_in};
 ghost use Rattle.store_rows.specs.Tables.{IsAtRest, house_row_in, tables_in};
-ghost use Rattle.store_house.specs.Opening.{AreNumbered, AreReserved, AreSet, Follows, HasEditions, HasReserves, HasSettings, HaveNumbers, IsSetUp, IsSoundHouse};
-ghost use Rattle.store_rows.specs.Frames.{OnlyReads};
+ghost use Rattle.store_house.specs.Opening.{AreNumbered, AreSet, Follows, HasRead, HasSettings, IsReadable, IsSetUp, IsSoundHouse};
+ghost use Rattle.store_rows.specs.Frames.{Finds};
 
 use crate::editions::{read_editions, table_of};
 use crate::house::Opened;
@@ -74,13 +74,9 @@ fn read_settings<S: Alter>(
     conn: &mut Connection<S>,
 ) -> Result<(Settings, u64), KeepFault>
     requires { Serves (state S.Store conn.old) }
-    ensures settings { HasCleanDisk (state S.Store conn.new)
-        → IfOk result (λ read. HasSettings (state S.Store conn.old).now.trees read.0 read.1) }
+    ensures finds { Finds S.Store conn.old conn.new result
+        (λ db read. HasSettings db read.0 read.1) IsSetUp }
     ensures moment { IfOk result (λ read. IsMoment read.1) }
-    ensures damaged { HasCleanDisk (state S.Store conn.new)
-        → IsSetUp (state S.Store conn.old).now.trees
-        → ¬ (IsErrOf result Damaged) }
-    ensures read { OnlyReads (state S.Store conn.old) (state S.Store conn.new) result }
 {
     let Some(house) = house_row(conn)? else {
         return Err(KeepFault::Damaged);
@@ -99,23 +95,9 @@ pub(crate) fn read_house<S: Alter>(
     conn: &mut Connection<S>,
 ) -> Result<(Editions, u64, Counts, Reserves), KeepFault>
     requires { Serves (state S.Store conn.old) }
-    ensures settings { HasCleanDisk (state S.Store conn.new)
-        → IfOk result (λ read. HasSettings (state S.Store conn.old).now.trees read.0.settings
-        read.1) }
-    ensures editions { HasCleanDisk (state S.Store conn.new)
-        → IfOk result (λ read. HasEditions (state S.Store conn.old).now.trees read.0.later) }
+    ensures finds { Finds S.Store conn.old conn.new result
+        (λ db read. HasRead db read.0 read.1 read.2 read.3) IsReadable }
     ensures moment { IfOk result (λ read. IsMoment read.1) }
-    ensures counts { HasCleanDisk (state S.Store conn.new)
-        → IfOk result (λ read. HaveNumbers (state S.Store conn.old).now.trees read.2) }
-    ensures reserves { HasCleanDisk (state S.Store conn.new)
-        → IfOk result (λ read. HasReserves (state S.Store conn.old).now.trees read.3) }
-    ensures damaged { HasCleanDisk (state S.Store conn.new)
-        → IsSetUp (state S.Store conn.old).now.trees
-        → AreNumbered (state S.Store conn.old).now.trees
-        → AreReserved (state S.Store conn.old).now.trees
-        → AreSet (state S.Store conn.old).now.trees
-        → ¬ (IsErrOf result Damaged) }
-    ensures read { OnlyReads (state S.Store conn.old) (state S.Store conn.new) result }
 {
     let (settings, clock) = read_settings(alloc, conn)?;
     let counts = read_counts(conn)?;

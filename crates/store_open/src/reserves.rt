@@ -1,13 +1,10 @@
 //! The reserves of a house as it is opened.
-ghost use Rattle.std.specs.Prelude.{◌≡◌, ◌≤◌, nat_le, IfOk, OnOk, IsErrOf};
-ghost use Rattle.std.specs.List.{AllByRecursion, list_all};
-ghost use Rattle.sqlite.specs.State.{HasCleanDisk};
+ghost use Rattle.std.specs.Prelude.{◌≡◌, nat_le};
+ghost use Rattle.std.specs.List.{list_all};
 ghost use Rattle.sqlite.specs.Held.{state};
-ghost use Rattle.house_rows.specs.declared.fault.KeepFault.TheVariants.{Damaged};
-ghost use Rattle.store_rows.specs.Fitting.{ReserveRowFits};
-ghost use Rattle.store_rows.specs.Frames.{OnlyReads};
+ghost use Rattle.store_rows.specs.Frames.{Finds};
 ghost use Rattle.store_rows.specs.House.{Serves};
-ghost use Rattle.store_rows.specs.Rows.{reserves_in};
+ghost use Rattle.store_house.specs.Opening.{AreReservedTo, HasReservesTo};
 
 use house_rows::KeepFault;
 use sqlite::{Alter, Connection};
@@ -30,16 +27,7 @@ pub(crate) fn read_reserves<S: Alter>(
     items: u32,
 ) -> Result<Reserves, KeepFault>
     requires { Serves (state S.Store conn.old) }
-    ensures value { HasCleanDisk (state S.Store conn.new)
-        → IfOk result (λ all. all ≡ reserves_in (state S.Store conn.old).now.trees) }
-    ensures within { HasCleanDisk (state S.Store conn.new)
-        → OnOk result (AllByRecursion (λ r. r.item ≤ items)
-        (reserves_in (state S.Store conn.old).now.trees)) }
-    ensures damaged { HasCleanDisk (state S.Store conn.new)
-        → AllByRecursion ReserveRowFits (reserves_in (state S.Store conn.old).now.trees)
-        → AllByRecursion (λ r. r.item ≤ items) (reserves_in (state S.Store conn.old).now.trees)
-        → ¬ (IsErrOf result Damaged) }
-    ensures read { OnlyReads (state S.Store conn.old) (state S.Store conn.new) result }
+    ensures { Finds S.Store conn.old conn.new result (HasReservesTo items) (AreReservedTo items) }
 {
     let rows = all_reserves(alloc, conn)?;
     if !are_within(&rows, items) {

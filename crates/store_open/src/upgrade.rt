@@ -2,7 +2,7 @@
 //!
 //! One transaction makes the tables and sets the version. The house is read within it, so what has to
 //! fit is known to fit before anything is committed.
-ghost use Rattle.std.specs.Prelude.{◌≡◌, ◌≢◌, ◌==◌, true, false, Some, IfErr, IfOk, OnErr, OnOk, IsErrOf, IsTrue, find, option_map};
+ghost use Rattle.std.specs.Prelude.{◌≡◌, ◌≢◌, true, false, Some, IfErr, IfOk, OnErr, OnOk, IsErrOf, IsTrue};
 ghost use Rattle.sqlite.specs.Held.{state};
 ghost use Rattle.sqlite.specs.State.{HasCleanDisk, KeepsCommit, Shows, Survives};
 ghost use Rattle.sqlite_trees.specs.Tree.{Trees};
@@ -13,10 +13,10 @@ ghost use Rattle.house_rows.specs.Tables.{band_tables};
 ghost use Rattle.house_rows.specs.declared.fault.KeepFault.TheVariants.{Damaged, Store};
 ghost use Rattle.store_rows.specs.Fitting.{HouseRowFits};
 ghost use Rattle.store_rows.specs.House.{IsFirstHouse, IsInside, Serves};
-ghost use Rattle.store_rows.specs.Frames.{OnlyReads};
-ghost use Rattle.store_rows.specs.Rows.{houses_in, reserves_in};
+ghost use Rattle.store_rows.specs.Frames.{Finds};
+ghost use Rattle.store_rows.specs.Rows.{reserves_in};
 ghost use Rattle.store_rows.specs.Tables.{IsAtRest, house_row_in, tables_in};
-ghost use Rattle.store_house.specs.Opening.{AreNumbered, AreSet, Follows, FollowsOrGrows, HasEditions, HasReserves, HasSettings, HaveNumbers, IsFirstSetUp, IsSoundFirst, IsSoundHouse, Upgraded, Upgrades, first_tables_in};
+ghost use Rattle.store_house.specs.Opening.{AreNumbered, AreSet, Follows, FollowsOrGrows, HasEditions, HasReserves, HasSettings, HaveNumbers, IsFirstSetUp, IsSoundFirst, IsSoundHouse, Upgraded, Upgrades, first_tables_in, version_in};
 
 use crate::house::Opened;
 use crate::open::{open_house, read_house};
@@ -33,14 +33,8 @@ const FIRST_VERSION: u32 = 1;
 // Damaged where the row of the house doesn't have version 1.
 fn check_first<S: Alter>(conn: &mut Connection<S>) -> Result<(), KeepFault>
     requires { Serves (state S.Store conn.old) }
-    ensures report { HasCleanDisk (state S.Store conn.new)
-        → OnOk result (option_map (λ h. h.version) (find (λ h. h.id == 1)
-        (houses_in (state S.Store conn.old).now.trees)) ≡ Some 1) }
-    ensures damaged { HasCleanDisk (state S.Store conn.new)
-        → option_map (λ h. h.version) (find (λ h. h.id == 1)
-        (houses_in (state S.Store conn.old).now.trees)) ≡ Some 1
-        → ¬ (IsErrOf result Damaged) }
-    ensures read { OnlyReads (state S.Store conn.old) (state S.Store conn.new) result }
+    ensures { Finds S.Store conn.old conn.new result
+        (λ db _. version_in db ≡ Some 1) (λ db. version_in db ≡ Some 1) }
 {
     if stored_version(conn)? == Some(FIRST_VERSION) {
         Ok(())
@@ -58,8 +52,7 @@ fn grow<S: Alter>(conn: &mut Connection<S>) -> Result<(), KeepFault>
     ensures inside { HasCleanDisk (state S.Store conn.new)
         → OnOk result (IsInside (state S.Store conn.old) (state S.Store conn.new)) }
     ensures damaged { HasCleanDisk (state S.Store conn.new)
-        → option_map (λ h. h.version) (find (λ h. h.id == 1)
-        (houses_in (state S.Store conn.old).now.trees)) ≡ Some 1
+        → version_in (state S.Store conn.old).now.trees ≡ Some 1
         → ¬ (IsErrOf result Damaged) }
     ensures crash { Survives (state S.Store conn.old) (state S.Store conn.new) (λ _. ⊥) }
 {

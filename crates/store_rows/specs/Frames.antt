@@ -1,6 +1,11 @@
 -- What a call on a connection leaves beside its answer.
-use Rattle.std.specs.Prelude.{◌≡◌, false, OnErr, OnOk, Result}
+use Rattle.std.specs.Prelude.{◌≡◌, false, IfOk, OnErr, OnOk, Result}
+use Rattle.sqlite_trees.specs.declared.store.Store.{Ghosts}
+use Rattle.sqlite_trees.specs.Tree.{Trees}
+use Rattle.sqlite.specs.Held.{Held, state}
 use Rattle.sqlite.specs.State.{HasCleanDisk, IsUnchanged, KeepsCommit, State, Survives}
+use Rattle.house_rows.specs.Taken.{IsUndamaged}
+use Rattle.house_rows.specs.declared.fault.KeepFault.{KeepFault}
 use Rattle.store_rows.specs.House.{IsInside, KeepsCommitted}
 
 -- A query changes nothing: after an answer all is as it was, after a failure at least what was committed. It begins no
@@ -23,3 +28,10 @@ pub record WritesMany {A E : Type 0} (old new : State) (result : Result A E) : T
   pub inside : HasCleanDisk new → OnOk result (IsInside old new)
   pub err : HasCleanDisk new → OnErr result (KeepsCommit old new)
   pub crash : Survives old new (λ _. ⊥)
+
+-- What a look-up promises. As far as the disk returned what was written, the answer is what is asked for of the rows, and it is
+-- `Damaged` only where rows that it takes don't fit. Whatever the disk did, nothing is changed.
+pub record Finds {S A : Type 0} (g : Ghosts S) (old new : Held S) (result : Result A KeepFault) (IsAnswer : Trees → A → Type 0) (Fit : Trees → Type 0) : Type 0 where
+  pub value : HasCleanDisk (state g new) → IfOk result (IsAnswer (state g old).now.trees)
+  pub damaged : HasCleanDisk (state g new) → Fit (state g old).now.trees → IsUndamaged result
+  pub read : OnlyReads (state g old) (state g new) result

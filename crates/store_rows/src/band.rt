@@ -10,7 +10,7 @@ ghost use Rattle.store_rows.specs.Rows.{band_of, bands_in};
 ghost use Rattle.store_rows.specs.Frames.{OnlyReads};
 
 use crate::columns::number_at;
-use crate::statement::rows_shown;
+use crate::sql::rows_shown;
 use crate::stored::{Stored, all_of};
 use house_rows::KeepFault;
 use sqlite::{Alter, Connection, Row};

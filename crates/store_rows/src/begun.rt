@@ -7,7 +7,7 @@ ghost use Rattle.sqlite.specs.Values.{bound};
 ghost use Rattle.sqlite.specs.Held.{state};
 ghost use Rattle.store_rows.specs.Begun.{StaysInside};
 
-use crate::statement::fault_of;
+use crate::sql::fault_of;
 use house_rows::KeepFault;
 use sqlite::types::ValueRef;
 use sqlite::{Alter, Connection};

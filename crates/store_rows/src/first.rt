@@ -12,7 +12,7 @@ ghost use Rattle.store_rows.specs.Schema.{house_schema};
 ghost use Rattle.store_rows.specs.First.{IsFinite, ShowsFirst, ShowsSome};
 ghost use Rattle.store_rows.specs.Frames.{OnlyReads};
 
-use crate::statement::fault_of;
+use crate::sql::fault_of;
 use house_rows::{KeepFault, MOST_SHOWN};
 use sqlite::types::ValueRef;
 use sqlite::{Alter, Connection, Error, Row};

@@ -11,7 +11,7 @@ ghost use Rattle.store_rows.specs.Frames.{WritesOnce, OnlyReads};
 use crate::begun::run_begun;
 use crate::columns::{number_at, text_at};
 use crate::fits::{VERSION, house_fits};
-use crate::statement::{rows_shown, run};
+use crate::sql::{rows_shown, run};
 use crate::stored::{Stored, first_of};
 use house_rows::{KeepFault, Text};
 use sqlite::{Alter, Connection, Row, Transaction, params};

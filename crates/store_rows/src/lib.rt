@@ -27,7 +27,7 @@ mod reserve;
 mod reserve_rows;
 mod reserves;
 mod rules;
-mod statement;
+mod sql;
 mod stored;
 mod tables;
 
@@ -43,6 +43,6 @@ pub use reserve::ReserveRow;
 pub use reserve_rows::{all_reserves, put_reserve};
 pub use reserves::Reserves;
 pub use rules::Rules;
-pub use statement::{commit, fault_of, is_still_open, rows_shown, run, stored_moment};
+pub use sql::{commit, fault_of, is_still_open, rows_shown, run, stored_moment};
 pub use stored::{Stored, all_of, first_of};
 pub use tables::{FIRST_STEPS, STEPS, add_tables, make_steps, make_tables};

@@ -11,7 +11,7 @@ ghost use Rattle.store_rows.specs.Rows.{reserves_in};
 ghost use Rattle.store_rows.specs.Reserves.{AddsReserve};
 
 use crate::reserve::ReserveRow;
-use crate::statement::{rows_shown, run};
+use crate::sql::{rows_shown, run};
 use crate::stored::all_of;
 use cents::Cents;
 use house_rows::KeepFault;

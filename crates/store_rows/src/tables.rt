@@ -9,7 +9,7 @@ ghost use Rattle.store_rows.specs.Making.{IsBlank, IsEmptyHouse, IsGrown, IsMade
 ghost use Rattle.store_rows.specs.Frames.{WritesOnce, WritesMany};
 
 use crate::begun::run_begun;
-use crate::statement::fault_of;
+use crate::sql::fault_of;
 use house_rows::KeepFault;
 use sqlite::{Alter, Connection, Transaction};
 

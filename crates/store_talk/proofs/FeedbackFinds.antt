@@ -84,14 +84,6 @@ module _ (item giver : ℕ) (low : item < 2 ^ 32) (small : giver < 2 ^ 32) where
         | inr others ↦ ap₂ ◌||◌ (others ∙ sym (other r others)) (as_typed table (rw others at fits))
       ]
 
-  first_fits : (table : List Row) → AllByRecursion FeedbackFits (map one_feedback_in table) → FirstFits (kept table)
-  first_fits [] fits = tt
-  first_fits (r ∷ table) fits =
-      elim (by_test (has_key r)) [
-        | inl is ↦ rw is fits.0
-        | inr others ↦ rw others (first_fits table fits.1)
-      ]
-
   -- a row with the key is the giver's
   by_giver : (r : Row) → has_key r ≡ true → ((one_feedback_in r).from == giver) ≡ true
   by_giver r is = second_of_both (eqb (number_in (column r 1)) item) _ is
@@ -126,6 +118,3 @@ module _ (item giver : ℕ) (low : item < 2 ^ 32) (small : giver < 2 ^ 32) where
     -- where all of the giver's fit
     pub given_here : FitWhere (λ f. f.from == giver) FeedbackFits (feedback_in old.now.trees) → FirstFits answer
     given_here fits = rw answer_is (first_here table fits)
-
-    pub given_fits : AllByRecursion FeedbackFits (feedback_in old.now.trees) → FirstFits answer
-    given_fits fits = rw answer_is (first_fits table fits)

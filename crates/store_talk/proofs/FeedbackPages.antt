@@ -54,9 +54,9 @@ use Rattle.store_rows.proofs.Update.{numbered_passes}
 use Rattle.store_rows.specs.First.{IsFinite, ShowsFirst, ShowsSome}
 use Rattle.store_rows.proofs.Asked.{Asks, from_second, lists, under_zero}
 use Rattle.store_rows.proofs.Bounds.{bound_of, from_bound}
-use Rattle.store_rows.proofs.Compared.{at_least, fits_not_negative, is_negative, report_at_least}
+use Rattle.store_rows.proofs.Compared.{at_least, is_negative, report_at_least}
 use Rattle.store_rows.proofs.Near.{IsUp, first_near, first_rises, first_stored, kept_near, number_most}
-use Rattle.store_rows.proofs.Firsts.{first_by_key, first_fit, first_kept, none_passes, some_passes}
+use Rattle.store_rows.proofs.Firsts.{first_by_key, first_kept, none_passes, some_passes}
 use Rattle.store_rows.proofs.Grouped.{firsts_rise}
 use Rattle.store_rows.proofs.Sorting.{filter-sorted, sorted_in_order}
 use Rattle.store_rows.proofs.Ties.{none_tie, three_rise, tied_equal}
@@ -244,28 +244,20 @@ later_item : (is : Bool) (m n : ℕ) → m < 2 ^ 32 → m ≤ n → m ≤ cond i
 later_item true m n low up = up
 later_item false m n low up = omega (arith, low)
 
-fitting_bits : (a under negative rated : Bool) → negative ≡ false → rated ≡ true → (a && (under && ((negative || not rated) && true))) ≡ false
-fitting_bits a under negative rated e f = rw (e, f) (go a under)
-  where
-    go : (a b : Bool) → (a && (b && false)) ≡ false
-    go true true = refl
-    go true false = refl
-    go false b = refl
-
 -- ---- the keys
 
 abbrev Fits : Row → Type 0
 Fits r = FeedbackFits (one_feedback_in r)
 
-rated : (is : Bool) (n : ℕ) → cond is n (2 ^ 64) ≤ 1000000 → (cond is n (2 ^ 64) ≡ n) × (is ≡ true)
-rated true n low = (refl, refl)
+rated : (is : Bool) (n : ℕ) → cond is n (2 ^ 64) ≤ 1000000 → cond is n (2 ^ 64) ≡ n
+rated true n low = refl
 rated false n low = absurd (omega (arith, low))
 
-rating_is : (r : Row) → Fits r → ((one_feedback_in r).item ≡ number_in (column r 1)) × (is_rating (column r 4) ≡ true)
+rating_is : (r : Row) → Fits r → (one_feedback_in r).item ≡ number_in (column r 1)
 rating_is r fits = rated (is_rating (column r 4)) (number_in (column r 1)) fits.item.1
 
 item_low : (r : Row) → Fits r → number_in (column r 1) < 2 ^ 32
-item_low r fits = omega (arith, (rating_is r fits).0, fits.item.1)
+item_low r fits = omega (arith, rating_is r fits, fits.item.1)
 
 giver_low : (r : Row) → Fits r → number_in (column r 2) < 2 ^ 32
 giver_low r fits = omega (arith, fits.from.1)
@@ -340,7 +332,7 @@ module _ (member from : ℕ) (low : member < 2 ^ 32) (small : from < 2 ^ 32) (ol
       let as_three : ordering_then (value_cmp (column r 1) (column s 1)) (ordering_then (value_cmp (column r 2) (column s 2)) (ordering_then (value_cmp (Int (pos 0)) (Int (pos 0))) Equal)) ≡ Less = rw third less in
       let by_numbers = three_rise (column r 1) (column r 2) (Int (pos 0)) (column s 1) (column s 2) (Int (pos 0)) (item_low r fits) (giver_low r fits) (omega arith) s_is.item s_is.giver refl as_three in
       let later = stays_less (is_rating (column s 4)) (number_in (column r 1)) (number_in (column r 2)) (number_in (column s 1)) (number_in (column s 2)) (item_low r fits) by_numbers in
-      rw (rating_is r fits).0 later
+      rw (rating_is r fits) later
 
   low_passing : (r : Row) → IsGiven r → (passes given_test params r && is_low item_of (one_feedback_in r)) ≡ (keeps member from (one_feedback_in r) && is_low item_of (one_feedback_in r))
   low_passing r is =
@@ -390,21 +382,6 @@ module _ (member from : ℕ) (low : member < 2 ^ 32) (small : from < 2 ^ 32) (ol
         | inl few ↦ given_shown rows (none (fewer (length rows) 50 few)) first fits
         | inr many ↦ given_full rows first (so_many_rows 50 rows first.all first.are many) fits
       ]
-
-  pub given_fit : (rows : List Row) → ShowsFirst 50 given_text params old new rows → AllByRecursion FeedbackFits (feedback_in old.now.trees) → AllByRecursion FeedbackFits (map feedback_of rows)
-  given_fit rows first fits =
-      subst (λ l. AllByRecursion FeedbackFits (map feedback_of l)) (sym first.are)
-      (first_fit given_test talk_shown two_columns params table first.all (listing rows first)
-      feedback_of one_feedback_in (λ r. refl) FeedbackFits (all_unmap FeedbackFits one_feedback_in table fits) 50)
-
-  pub no_stray_given : (end : State) → ShowsSome stray_feedback_text params old end → AllByRecursion FeedbackFits (feedback_in old.now.trees) → ⊥
-  no_stray_given end some fits =
-      some_passes stray_test (col 1 1 ∷ []) two_columns params table (some.first ∷ some.others)
-      (lists stray_feedback_text 14 stray_test (col 1 1 ∷ []) two_columns _ strays_is (λ db. refl) old end params _ house some.shown) some.first some.others refl
-      (all_both IsGiven Fits (λ r. passes stray_test params r ≡ false)
-      (λ r is fit. stray_is r is ∙ fitting_bits (eqb (number_in (column r 3)) member) (not (not (is_negative (column r 1)) && nat_le from (number_in (column r 1)))) (is_negative (column r 1)) (is_rating (column r 4))
-      (fits_not_negative (column r 1) (item_low r fit)) (rating_is r fit).1)
-      table (are_given old.now house) (all_unmap FeedbackFits one_feedback_in table fits))
 
   -- what the list takes fits
   passes_is : (r : Row) → IsGiven r → passes given_test params r ≡ (eqb (number_in (column r 3)) member && ((not (is_negative (column r 1)) && nat_le from (number_in (column r 1))) && true))

@@ -12,6 +12,7 @@ pub mod QuestionMeaning
 pub mod QuestionLists
 pub mod QuestionPages
 pub mod SortedTalk
+pub mod Sound
 pub mod TalkLemmas
 pub mod WaitingItems
 pub mod WaitingStanding

@@ -10,7 +10,7 @@ use Rattle.sqlite_schema.specs.declared.schema.Constraint.TheVariants.{Unique}
 use Rattle.sqlite_catalog.specs.Listing.{IsSound}
 use Rattle.sqlite_sql.specs.Term.{Term}
 use Rattle.sqlite_sql.specs.Program.{overlay}
-use Rattle.sqlite_keyed.proofs.ListLemmas.{all-filter, all_unmap, all_weaker}
+use Rattle.sqlite_keyed.proofs.ListLemmas.{all_weaker}
 use Rattle.sqlite_keyed.proofs.RuleLemmas.{first_of_both}
 use Rattle.sqlite.specs.Effect.{Database}
 use Rattle.sqlite.specs.State.{State, Shown}
@@ -81,11 +81,6 @@ module _ (test : List Term) (params : Row) where
 
     listing : IsListOf table test question_shown question_order params answer
     listing = listed 12 test question_shown question_order (overlay old.now.trees []) params answer ((reads_as sql params old new house_schema house.schema _ is.0 is.2 is.1 answer h).answer Null)
-
-    pub questions_fit : AllByRecursion QuestionFits (questions_in old.now.trees) → AllByRecursion QuestionFits (map question_of answer)
-    questions_fit fits =
-        shown_fits test question_shown question_order params table answer listing question_of question_in (λ r. refl) QuestionFits
-        (all-filter Fits (passes test params) table (all_unmap QuestionFits question_in table fits))
 
     -- where those fit that the query keeps
     pub questions_kept : (keep : Question → Bool) → ((r : Row) → IsTalk r → passes test params r ≡ keep (question_in r)) → FitWhere keep QuestionFits (questions_in old.now.trees) → AllByRecursion QuestionFits (map question_of answer)

@@ -47,12 +47,12 @@ use Rattle.store_rows.proofs.Shown.{moved, output_row, shown_fits}
 use Rattle.store_rows.proofs.Sorting.{filter-sorted, sorted_in_order, sorted_moves}
 use Rattle.store_rows.proofs.TextLemmas.{same_number}
 use Rattle.store_rows.proofs.Tested.{all-take, filter_both, filter_regrouped, is_there}
-use Rattle.store_rows.specs.First.{IsFinite, ShowsFirst, ShowsSome}
-use Rattle.store_rows.proofs.Asked.{Asks, first_passes, from_second, lists, never, page_passes, stray_passes, under_zero}
+use Rattle.store_rows.specs.First.{IsFinite, ShowsFirst}
+use Rattle.store_rows.proofs.Asked.{Asks, first_passes, from_second, lists, page_passes, under_zero}
 use Rattle.store_rows.proofs.Bounds.{bound_of, from_bound}
 use Rattle.store_rows.proofs.Compared.{at_least, below_zero, fits_not_negative, is_negative}
 use Rattle.store_rows.proofs.Near.{all_near, few_kept, first_near, first_stored, kept_near, none_far, number_most, second_rises}
-use Rattle.store_rows.proofs.Firsts.{first_by_key, first_fit, first_kept, none_passes, some_passes}
+use Rattle.store_rows.proofs.Firsts.{first_by_key, first_kept, none_passes, some_passes}
 use Rattle.store_items.proofs.After.{kept_number}
 use Rattle.store_items.proofs.ItemPages.{negative_over}
 use Rattle.store_talk.specs.Spoiled.{HasStray}
@@ -185,12 +185,6 @@ module _ (test : List Term) (order : List (Term × Sorting)) (params : Row) (sql
       question_of question_in (λ r. refl) number (λ q. ⊥) QuestionFits Is apart are (λ r s r_is s_is less. inr (rises r s r_is s_is less)) 50
       (kept_near question_in number keep (passes test params) IsTalk tests (λ q. ⊥) QuestionFits most passing table talk fits (none_far keep QuestionFits (questions_in old.now.trees))))
 
-  pub questions_fit : AllByRecursion QuestionFits (questions_in old.now.trees) → AllByRecursion QuestionFits (map question_of rows)
-  questions_fit fits =
-      subst (λ l. AllByRecursion QuestionFits (map question_of l)) (sym first.are)
-      (first_fit test question_shown order params table first.all (lists sql 12 test question_shown order question_names is (λ db. refl) old new params first.all house first.shown)
-      question_of question_in (λ r. refl) QuestionFits (all_unmap QuestionFits question_in table fits) 50)
-
   -- the rows that are shown fit, where those do that WHERE keeps
   questions_passing : AllByRecursion Fits (filter (passes test params) table) → AllByRecursion QuestionFits (map question_of rows)
   questions_passing fits =
@@ -231,9 +225,6 @@ module _ (item : ℕ) (low : item < 2 ^ 32) (old new : State) (house : IsHouse o
       IsTalk (all-filter IsTalk (passes waiting_terms on_item) (old.now.trees 12) talk) (rises waiting_terms on_item)
       (λ q. (q.item == item) && not (is_some q.answer)) IsTalk (waiting_test item low) talk fits
 
-  pub waiting_fit : AllByRecursion QuestionFits (questions_in old.now.trees) → AllByRecursion QuestionFits (map question_of rows)
-  waiting_fit = questions_fit waiting_terms question_order on_item waiting_on_text waiting_on_is old new house rows first
-
   pub waiting_kept : WaitingFit old.now.trees item → AllByRecursion QuestionFits (map question_of rows)
   waiting_kept fits =
       questions_passing waiting_terms question_order on_item waiting_on_text waiting_on_is old new house rows first
@@ -266,11 +257,6 @@ published_low true true false true low high = refl
 published_low true true false false low high = refl
 published_low true false false over low high = refl
 published_low false b false over low high = refl
-
-stray_bits : (a b negative : Bool) → negative ≡ false → (a && (b && (negative && true))) ≡ false
-stray_bits true true negative none = rw none refl
-stray_bits true false negative none = refl
-stray_bits false b negative none = refl
 
 published_kept : (a b negative over : Bool) → (a && (b && ((not negative && over) && true))) ≡ true → ((a && b) && over) ≡ true
 published_kept true true false true is = refl
@@ -379,14 +365,6 @@ module _ (item from : ℕ) (low : item < 2 ^ 32) (small : from < 2 ^ 32) (old ne
         | inr many ↦ published_full rows first (so_many_rows 50 rows first.all first.are many) fits
       ]
 
-  pub no_stray_asker : (end : State) → ShowsSome stray_askers_text here old end → AllByRecursion QuestionFits (questions_in old.now.trees) → ⊥
-  no_stray_asker end some fits =
-      some_passes stray_askers (col 1 2 ∷ []) question_order here asked (some.first ∷ some.others)
-      (lists stray_askers_text 12 stray_askers (col 1 2 ∷ []) question_order _ stray_askers_is (λ db. refl) old end here _ house some.shown) some.first some.others refl
-      (all_both IsTalk Fits (λ r. passes stray_askers here r ≡ false)
-      (λ r is fit. stray_is r is ∙ stray_bits (eqb (number_in (column r 1)) item) (is_some (maybe_text_in (column r 5))) (is_negative (column r 2)) (fits_not_negative (column r 2) (asker_low r fit))) asked (are_questions old.now house)
-      (all_unmap QuestionFits question_in asked fits))
-
   -- what the list takes fits
   passes_is : (r : Row) → IsTalk r
       → passes published_test params r ≡ (eqb (number_in (column r 1)) item && (is_some (maybe_text_in (column r 5)) && ((not (is_negative (column r 2)) && nat_le from (number_in (column r 2))) && true)))
@@ -442,10 +420,6 @@ module _ (item from : ℕ) (low : item < 2 ^ 32) (small : from < 2 ^ 32) (old ne
       some_passes stray_askers (col 1 2 ∷ []) question_order here asked (stray.some.first ∷ stray.some.others)
       (lists stray_askers_text 12 stray_askers (col 1 2 ∷ []) question_order _ stray_askers_is (λ db. refl) old end here _ house stray.some.shown) stray.some.first stray.some.others refl
       (all_both IsTalk (λ r. IsTaken (question_in r)) (λ r. passes stray_askers here r ≡ false) (taken_no_stray few) asked (are_questions old.now house) (all_unmap IsTaken question_in asked fits))
-
-pub published_fit : (item from : ℕ) (old new : State) → IsHouse old.now → (rows : List Row) → ShowsFirst 50 published_text (Int (pos item) ∷ Int (pos from) ∷ []) old new rows
-    → AllByRecursion QuestionFits (questions_in old.now.trees) → AllByRecursion QuestionFits (map question_of rows)
-published_fit item from old new house rows first = questions_fit published_test question_order (Int (pos item) ∷ Int (pos from) ∷ []) published_text published_is old new house rows first
 
 asker_small : (q : Question) → QuestionFits q → q.asker < 4294967295
 asker_small q fit = omega (arith, fit.asker.1)
@@ -519,14 +493,6 @@ module _ (asker from : ℕ) (low : asker < 2 ^ 32) (small : from < 2 ^ 32) (old 
         | inr many ↦ questions_full rows first (so_many_rows 50 rows first.all first.are many) fits
       ]
 
-  pub no_stray_question : (end : State) → ShowsSome stray_asked_text of_asker old end → AllByRecursion QuestionFits (questions_in old.now.trees) → ⊥
-  no_stray_question end some fits =
-      some_passes stray_asked (col 1 1 ∷ []) by_asker of_asker all_asked (some.first ∷ some.others)
-      (lists stray_asked_text 12 stray_asked (col 1 1 ∷ []) by_asker _ stray_asked_is (λ db. refl) old end of_asker _ house some.shown) some.first some.others refl
-      (all_both IsTalk Fits (λ r. passes stray_asked of_asker r ≡ false)
-      (λ r is fit. stray_passes 2 1 asker low r is.second is.first ∙ never (eqb (number_in (column r 2)) asker) (is_negative (column r 1)) (fits_not_negative (column r 1) (item_low r fit))) all_asked (are_questions old.now house)
-      (all_unmap QuestionFits question_in all_asked fits))
-
   -- what the list takes fits
   abbrev keeps_asked : Question → Bool
   keeps_asked q = (q.asker == asker) && nat_le from q.item
@@ -585,10 +551,6 @@ module _ (asker from : ℕ) (low : asker < 2 ^ 32) (small : from < 2 ^ 32) (old 
       some_passes stray_asked (col 1 1 ∷ []) by_asker of_asker all_asked (stray.some.first ∷ stray.some.others)
       (lists stray_asked_text 12 stray_asked (col 1 1 ∷ []) by_asker _ stray_asked_is (λ db. refl) old end of_asker _ house stray.some.shown) stray.some.first stray.some.others refl
       (all_both IsTalk (λ r. IsReached (question_in r)) (λ r. passes stray_asked of_asker r ≡ false) (reached_no_stray few) all_asked (are_questions old.now house) (all_unmap IsReached question_in all_asked fits))
-
-pub asked_fit : (asker from : ℕ) (old new : State) → IsHouse old.now → (rows : List Row) → ShowsFirst 50 questions_text (Int (pos asker) ∷ Int (pos from) ∷ []) old new rows
-    → AllByRecursion QuestionFits (questions_in old.now.trees) → AllByRecursion QuestionFits (map question_of rows)
-asked_fit asker from old new house rows first = questions_fit questions_test by_asker (Int (pos asker) ∷ Int (pos from) ∷ []) questions_text questions_is old new house rows first
 
 item_small : (q : Question) → QuestionFits q → q.item < 4294967295
 item_small q fit = omega (arith, fit.item.1)

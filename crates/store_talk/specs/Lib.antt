@@ -1,4 +1,5 @@
 pub mod Answers
+pub mod Fitting
 pub mod Spoiled
 pub mod Taken
 pub mod Texts

@@ -1,12 +1,11 @@
 //! Questions, by asker and item.
-ghost use Rattle.std.specs.Prelude.{◌≡◌, ◌==◌, ◌&&◌, IfOk, IsErrOf};
-ghost use Rattle.sqlite.specs.State.{HasCleanDisk};
+ghost use Rattle.std.specs.Prelude.{◌≡◌, ◌==◌, ◌&&◌, ⊤, IsErrOf};
 ghost use Rattle.sqlite.specs.Held.{state};
 ghost use Rattle.house_rows.specs.History.{counted};
 ghost use Rattle.house_rows.specs.declared.fault.KeepFault.TheVariants.{Damaged};
 ghost use Rattle.store_rows.specs.House.{Serves};
 ghost use Rattle.store_rows.specs.Sorted.{sorted_questions};
-ghost use Rattle.store_rows.specs.Frames.{OnlyReads};
+ghost use Rattle.store_rows.specs.Frames.{Finds};
 
 use house_rows::KeepFault;
 use sqlite::{Alter, Connection, params};
@@ -19,11 +18,10 @@ pub fn ask_count<S: Alter>(
     asker: u32,
 ) -> Result<u64, KeepFault>
     requires { Serves (state S.Store conn.old) }
-    ensures count { HasCleanDisk (state S.Store conn.new)
-        → IfOk result (λ n. n ≡ counted (λ q. (q.asker == asker) && (q.item == item))
-        (sorted_questions (state S.Store conn.old).now.trees)) }
+    ensures finds { Finds S.Store conn.old conn.new result
+        (λ db n. n ≡ counted (λ q. (q.asker == asker) && (q.item == item)) (sorted_questions db))
+        (λ _. ⊤) }
     ensures sound { ¬ (IsErrOf result Damaged) }
-    ensures read { OnlyReads (state S.Store conn.old) (state S.Store conn.new) result }
 {
     // They are at most twenty where the rows fit; SQL's own count would stop at 2^63 - 1.
     let rows = rows_shown(

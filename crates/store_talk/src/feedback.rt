@@ -8,7 +8,7 @@ ghost use Rattle.house_rows.specs.Fits.{FeedbackFits};
 ghost use Rattle.house_rows.specs.declared.fault.KeepFault.TheVariants.{Damaged};
 ghost use Rattle.store_rows.specs.House.{IsBegun, Serves, AddsFeedback};
 ghost use Rattle.store_rows.specs.Rows.{feedback_in, stored_rating};
-ghost use Rattle.store_rows.specs.Frames.{WritesOnce, OnlyReads};
+ghost use Rattle.store_rows.specs.Frames.{Finds, WritesOnce};
 
 use house_rows::{Feedback, KeepFault, Rating};
 use sqlite::{Alter, Connection, Transaction, params};
@@ -61,18 +61,10 @@ pub(crate) fn feedback_rows<S: Alter>(
     member: u32,
 ) -> Result<Vec<Feedback>, KeepFault>
     requires { Serves (state S.Store conn.old) }
-    ensures given { HasCleanDisk (state S.Store conn.new)
-        → IfOk result (λ given. given.items ≡ filter (λ f. f.to == member)
-        (feedback_in (state S.Store conn.old).now.trees)) }
+    ensures finds { Finds S.Store conn.old conn.new result
+        (λ db given. given.items ≡ filter (λ f. f.to == member) (feedback_in db))
+        (λ db. FitWhere (λ f. f.to == member) FeedbackFits (feedback_in db)) }
     ensures fits { IfOk result (λ given. AllByRecursion FeedbackFits given.items) }
-    ensures damaged { HasCleanDisk (state S.Store conn.new)
-        → AllByRecursion FeedbackFits (feedback_in (state S.Store conn.old).now.trees)
-        → ¬ (IsErrOf result Damaged) }
-    ensures here { HasCleanDisk (state S.Store conn.new)
-        → FitWhere (λ f. f.to == member) FeedbackFits
-        (feedback_in (state S.Store conn.old).now.trees)
-        → ¬ (IsErrOf result Damaged) }
-    ensures read { OnlyReads (state S.Store conn.old) (state S.Store conn.new) result }
 {
     let rows = rows_shown(
         conn,

@@ -3,7 +3,7 @@ ghost use Rattle.std.specs.Prelude.{◌≡◌, ◌==◌, ◌&&◌, pos, [], ◌�
 ghost use Rattle.std.specs.List.{AllByRecursion};
 ghost use Rattle.house_rows.specs.Fits.{FeedbackFits};
 ghost use Rattle.house_rows.specs.Found.{feedback_to};
-ghost use Rattle.house_rows.specs.Taken.{FirstFit, FitWhere, start_of};
+ghost use Rattle.house_rows.specs.Taken.{start_of};
 ghost use Rattle.house_rows.specs.Limits.{most_shown};
 ghost use Rattle.house_rows.specs.declared.fault.KeepFault.TheVariants.{Damaged};
 ghost use Rattle.sqlite_value.specs.declared.value.Value.TheVariants.{Int};
@@ -13,7 +13,8 @@ ghost use Rattle.store_rows.specs.House.{Serves};
 ghost use Rattle.store_rows.specs.Rows.{feedback_in, feedback_of};
 ghost use Rattle.store_rows.specs.Sorted.{sorted_feedback};
 ghost use Rattle.store_rows.specs.Tables.{tables_in};
-ghost use Rattle.store_rows.specs.Frames.{OnlyReads};
+ghost use Rattle.store_rows.specs.Frames.{Finds};
+ghost use Rattle.store_talk.specs.Fitting.{GivenFit};
 ghost use Rattle.store_talk.specs.Spoiled.{IsSpoiled};
 ghost use Rattle.store_talk.specs.Texts.{given_text, stray_feedback_text};
 
@@ -33,26 +34,16 @@ fn given_from<S: Alter>(
     from: u32,
 ) -> Result<Vec<Feedback>, KeepFault>
     requires { Serves (state S.Store conn.old) }
-    ensures given { HasCleanDisk (state S.Store conn.new)
-        → IfOk result (λ given. given.items ≡ take most_shown
-        (filter (λ f. (f.to == member) && nat_le from f.item)
-        (sorted_feedback (state S.Store conn.old).now.trees))) }
+    ensures finds { Finds S.Store conn.old conn.new result
+        (λ db given. given.items ≡ take most_shown
+        (filter (λ f. (f.to == member) && nat_le from f.item) (sorted_feedback db)))
+        (λ db. GivenFit member from (feedback_in db)) }
     ensures fits { IfOk result (λ given. AllByRecursion FeedbackFits given.items) }
-    ensures damaged { HasCleanDisk (state S.Store conn.new)
-        → AllByRecursion FeedbackFits (feedback_in (state S.Store conn.old).now.trees)
-        → ¬ (IsErrOf result Damaged) }
-    ensures reached { HasCleanDisk (state S.Store conn.new)
-        → FirstFit (λ f. (f.to == member) && nat_le from f.item)
-        (λ f. f.item) FeedbackFits (feedback_in (state S.Store conn.old).now.trees)
-        → FitWhere (λ f. (f.to == member) && nat_le 4294967296 f.item) FeedbackFits
-        (feedback_in (state S.Store conn.old).now.trees)
-        → ¬ (IsErrOf result Damaged) }
     ensures spoiled { HasCleanDisk (state S.Store conn.new)
         → IsErrOf result Damaged
         → IsSpoiled feedback_of FeedbackFits given_text (Int (pos member) ∷ Int (pos from) ∷ [])
         stray_feedback_text (Int (pos member) ∷ Int (pos from) ∷ [])
         (state S.Store conn.old) (state S.Store conn.new) }
-    ensures read { OnlyReads (state S.Store conn.old) (state S.Store conn.new) result }
 {
     let rows = listed_rows(
         alloc,
@@ -73,20 +64,10 @@ pub fn feedback_to<S: Alter>(
     from: u64,
 ) -> Result<Vec<Feedback>, KeepFault>
     requires { Serves (state S.Store conn.old) }
-    ensures given { HasCleanDisk (state S.Store conn.new)
-        → IfOk result (λ given. given.items ≡ feedback_to
-        (tables_in (state S.Store conn.old).now.trees) member from) }
+    ensures finds { Finds S.Store conn.old conn.new result
+        (λ db given. given.items ≡ feedback_to (tables_in db) member from)
+        (λ db. GivenFit member (start_of from) (tables_in db).feedback) }
     ensures fits { IfOk result (λ given. AllByRecursion FeedbackFits given.items) }
-    ensures damaged { HasCleanDisk (state S.Store conn.new)
-        → AllByRecursion FeedbackFits (feedback_in (state S.Store conn.old).now.trees)
-        → ¬ (IsErrOf result Damaged) }
-    ensures reached { HasCleanDisk (state S.Store conn.new)
-        → FirstFit (λ f. (f.to == member) && nat_le (start_of from) f.item)
-        (λ f. f.item) FeedbackFits (tables_in (state S.Store conn.old).now.trees).feedback
-        → FitWhere (λ f. (f.to == member) && nat_le 4294967296 f.item) FeedbackFits
-        (tables_in (state S.Store conn.old).now.trees).feedback
-        → ¬ (IsErrOf result Damaged) }
-    ensures read { OnlyReads (state S.Store conn.old) (state S.Store conn.new) result }
 {
     given_from(alloc, conn, member, bound_of(from))
 }

@@ -1,16 +1,14 @@
 //! Questions, by item, asker and number.
-ghost use Rattle.std.specs.Prelude.{◌≡◌, ◌==◌, ◌&&◌, not, is_some, filter, IfOk, IsErrOf};
+ghost use Rattle.std.specs.Prelude.{◌≡◌, is_some, filter, IfOk};
 ghost use Rattle.std.specs.List.{AllByRecursion};
-ghost use Rattle.sqlite.specs.State.{HasCleanDisk};
 ghost use Rattle.sqlite.specs.Held.{state};
 ghost use Rattle.house_rows.specs.Taken.{FitWhere};
 ghost use Rattle.house_rows.specs.Fits.{QuestionFits};
-ghost use Rattle.house_rows.specs.declared.fault.KeepFault.TheVariants.{Damaged};
-ghost use Rattle.store_talk.specs.Waiting.{WaitingFit};
+ghost use Rattle.store_talk.specs.Waiting.{waiting_in, WaitingFit};
 ghost use Rattle.store_rows.specs.House.{Serves};
 ghost use Rattle.store_rows.specs.Rows.{questions_in};
 ghost use Rattle.store_rows.specs.Sorted.{sorted_questions};
-ghost use Rattle.store_rows.specs.Frames.{OnlyReads};
+ghost use Rattle.store_rows.specs.Frames.{Finds};
 
 use house_rows::{KeepFault, Question};
 use sqlite::{Alter, Connection, params};
@@ -23,18 +21,10 @@ pub fn all_published<S: Alter>(
     conn: &mut Connection<S>,
 ) -> Result<Vec<Question>, KeepFault>
     requires { Serves (state S.Store conn.old) }
-    ensures asked { HasCleanDisk (state S.Store conn.new)
-        → IfOk result (λ asked. asked.items ≡ filter (λ q. is_some q.answer)
-        (sorted_questions (state S.Store conn.old).now.trees)) }
+    ensures finds { Finds S.Store conn.old conn.new result
+        (λ db asked. asked.items ≡ filter (λ q. is_some q.answer) (sorted_questions db))
+        (λ db. FitWhere (λ q. is_some q.answer) QuestionFits (questions_in db)) }
     ensures fits { IfOk result (λ asked. AllByRecursion QuestionFits asked.items) }
-    ensures damaged { HasCleanDisk (state S.Store conn.new)
-        → AllByRecursion QuestionFits (questions_in (state S.Store conn.old).now.trees)
-        → ¬ (IsErrOf result Damaged) }
-    ensures here { HasCleanDisk (state S.Store conn.new)
-        → FitWhere (λ q. is_some q.answer) QuestionFits
-        (questions_in (state S.Store conn.old).now.trees)
-        → ¬ (IsErrOf result Damaged) }
-    ensures read { OnlyReads (state S.Store conn.old) (state S.Store conn.new) result }
 {
     let rows = rows_shown(
         conn,
@@ -51,18 +41,9 @@ pub(crate) fn waiting_on<S: Alter>(
     item: u32,
 ) -> Result<Vec<Question>, KeepFault>
     requires { Serves (state S.Store conn.old) }
-    ensures asked { HasCleanDisk (state S.Store conn.new)
-        → IfOk result (λ asked. asked.items ≡ filter
-        (λ q. (q.item == item) && not (is_some q.answer))
-        (sorted_questions (state S.Store conn.old).now.trees)) }
+    ensures finds { Finds S.Store conn.old conn.new result
+        (λ db asked. asked.items ≡ waiting_in db item) (λ db. WaitingFit db item) }
     ensures fits { IfOk result (λ asked. AllByRecursion QuestionFits asked.items) }
-    ensures damaged { HasCleanDisk (state S.Store conn.new)
-        → AllByRecursion QuestionFits (questions_in (state S.Store conn.old).now.trees)
-        → ¬ (IsErrOf result Damaged) }
-    ensures here { HasCleanDisk (state S.Store conn.new)
-        → WaitingFit (state S.Store conn.old).now.trees item
-        → ¬ (IsErrOf result Damaged) }
-    ensures read { OnlyReads (state S.Store conn.old) (state S.Store conn.new) result }
 {
     let rows = rows_shown(
         conn,

@@ -1,9 +1,9 @@
 //! Lists of questions.
-ghost use Rattle.std.specs.Prelude.{◌≡◌, ◌==◌, ◌&&◌, pos, [], ◌∷◌, filter, is_some, nat_le, not, take, IfOk, IsErrOf};
+ghost use Rattle.std.specs.Prelude.{◌≡◌, ◌==◌, ◌&&◌, pos, [], ◌∷◌, filter, is_some, nat_le, take, IfOk, IsErrOf};
 ghost use Rattle.std.specs.List.{AllByRecursion};
 ghost use Rattle.house_rows.specs.Fits.{QuestionFits};
 ghost use Rattle.house_rows.specs.Found.{published_on, questions_of};
-ghost use Rattle.house_rows.specs.Taken.{FirstFit, start_of};
+ghost use Rattle.house_rows.specs.Taken.{start_of};
 ghost use Rattle.house_rows.specs.Limits.{most_shown};
 ghost use Rattle.house_rows.specs.declared.fault.KeepFault.TheVariants.{Damaged};
 ghost use Rattle.sqlite_value.specs.declared.value.Value.TheVariants.{Int};
@@ -13,8 +13,9 @@ ghost use Rattle.store_rows.specs.House.{Serves};
 ghost use Rattle.store_rows.specs.Rows.{question_of, questions_in};
 ghost use Rattle.store_rows.specs.Sorted.{sorted_questions};
 ghost use Rattle.store_rows.specs.Tables.{tables_in};
-ghost use Rattle.store_rows.specs.Frames.{OnlyReads};
-ghost use Rattle.store_talk.specs.Waiting.{WaitingFit};
+ghost use Rattle.store_rows.specs.Frames.{Finds};
+ghost use Rattle.store_talk.specs.Fitting.{AskedFit, PublishedFit};
+ghost use Rattle.store_talk.specs.Waiting.{waiting_in, WaitingFit};
 ghost use Rattle.store_talk.specs.Spoiled.{IsSpoiled};
 ghost use Rattle.store_talk.specs.Texts.{published_text, questions_text, stray_asked_text, stray_askers_text};
 
@@ -32,25 +33,17 @@ fn published_from<S: Alter>(
     from: u32,
 ) -> Result<Vec<Question>, KeepFault>
     requires { Serves (state S.Store conn.old) }
-    ensures asked { HasCleanDisk (state S.Store conn.new)
-        → IfOk result (λ asked. asked.items ≡ take most_shown
+    ensures finds { Finds S.Store conn.old conn.new result
+        (λ db asked. asked.items ≡ take most_shown
         (filter (λ q. (q.item == item) && nat_le from q.asker)
-        (filter (λ q. is_some q.answer) (sorted_questions
-        (state S.Store conn.old).now.trees)))) }
+        (filter (λ q. is_some q.answer) (sorted_questions db))))
+        (λ db. PublishedFit item from (questions_in db)) }
     ensures fits { IfOk result (λ asked. AllByRecursion QuestionFits asked.items) }
-    ensures damaged { HasCleanDisk (state S.Store conn.new)
-        → AllByRecursion QuestionFits (questions_in (state S.Store conn.old).now.trees)
-        → ¬ (IsErrOf result Damaged) }
-    ensures reached { HasCleanDisk (state S.Store conn.new)
-        → FirstFit (λ q. ((q.item == item) && is_some q.answer) && nat_le from q.asker)
-        (λ q. q.asker) QuestionFits (questions_in (state S.Store conn.old).now.trees)
-        → ¬ (IsErrOf result Damaged) }
     ensures spoiled { HasCleanDisk (state S.Store conn.new)
         → IsErrOf result Damaged
         → IsSpoiled question_of QuestionFits published_text (Int (pos item) ∷ Int (pos from) ∷ [])
         stray_askers_text (Int (pos item) ∷ [])
         (state S.Store conn.old) (state S.Store conn.new) }
-    ensures read { OnlyReads (state S.Store conn.old) (state S.Store conn.new) result }
 {
     let rows = listed_rows(
         alloc,
@@ -71,18 +64,10 @@ pub fn published_on<S: Alter>(
     from: u64,
 ) -> Result<Vec<Question>, KeepFault>
     requires { Serves (state S.Store conn.old) }
-    ensures asked { HasCleanDisk (state S.Store conn.new)
-        → IfOk result (λ asked. asked.items ≡ published_on
-        (tables_in (state S.Store conn.old).now.trees) item from) }
+    ensures finds { Finds S.Store conn.old conn.new result
+        (λ db asked. asked.items ≡ published_on (tables_in db) item from)
+        (λ db. PublishedFit item (start_of from) (tables_in db).questions) }
     ensures fits { IfOk result (λ asked. AllByRecursion QuestionFits asked.items) }
-    ensures damaged { HasCleanDisk (state S.Store conn.new)
-        → AllByRecursion QuestionFits (questions_in (state S.Store conn.old).now.trees)
-        → ¬ (IsErrOf result Damaged) }
-    ensures reached { HasCleanDisk (state S.Store conn.new)
-        → FirstFit (λ q. ((q.item == item) && is_some q.answer) && nat_le (start_of from) q.asker)
-        (λ q. q.asker) QuestionFits (tables_in (state S.Store conn.old).now.trees).questions
-        → ¬ (IsErrOf result Damaged) }
-    ensures read { OnlyReads (state S.Store conn.old) (state S.Store conn.new) result }
 {
     published_from(alloc, conn, item, bound_of(from))
 }
@@ -94,18 +79,10 @@ pub(crate) fn first_waiting_on<S: Alter>(
     item: u32,
 ) -> Result<Vec<Question>, KeepFault>
     requires { Serves (state S.Store conn.old) }
-    ensures asked { HasCleanDisk (state S.Store conn.new)
-        → IfOk result (λ asked. asked.items ≡ take most_shown
-        (filter (λ q. (q.item == item) && not (is_some q.answer))
-        (sorted_questions (state S.Store conn.old).now.trees))) }
+    ensures finds { Finds S.Store conn.old conn.new result
+        (λ db asked. asked.items ≡ take most_shown (waiting_in db item))
+        (λ db. WaitingFit db item) }
     ensures fits { IfOk result (λ asked. AllByRecursion QuestionFits asked.items) }
-    ensures damaged { HasCleanDisk (state S.Store conn.new)
-        → AllByRecursion QuestionFits (questions_in (state S.Store conn.old).now.trees)
-        → ¬ (IsErrOf result Damaged) }
-    ensures here { HasCleanDisk (state S.Store conn.new)
-        → WaitingFit (state S.Store conn.old).now.trees item
-        → ¬ (IsErrOf result Damaged) }
-    ensures read { OnlyReads (state S.Store conn.old) (state S.Store conn.new) result }
 {
     // A row with a negative number of its asker comes first, and doesn't fit: no stray is looked for.
     let rows = first_rows(
@@ -126,24 +103,16 @@ fn questions_from<S: Alter>(
     from: u32,
 ) -> Result<Vec<Question>, KeepFault>
     requires { Serves (state S.Store conn.old) }
-    ensures asked { HasCleanDisk (state S.Store conn.new)
-        → IfOk result (λ asked. asked.items ≡ take most_shown
-        (filter (λ q. (q.asker == asker) && nat_le from q.item)
-        (sorted_questions (state S.Store conn.old).now.trees))) }
+    ensures finds { Finds S.Store conn.old conn.new result
+        (λ db asked. asked.items ≡ take most_shown
+        (filter (λ q. (q.asker == asker) && nat_le from q.item) (sorted_questions db)))
+        (λ db. AskedFit asker from (questions_in db)) }
     ensures fits { IfOk result (λ asked. AllByRecursion QuestionFits asked.items) }
-    ensures damaged { HasCleanDisk (state S.Store conn.new)
-        → AllByRecursion QuestionFits (questions_in (state S.Store conn.old).now.trees)
-        → ¬ (IsErrOf result Damaged) }
-    ensures reached { HasCleanDisk (state S.Store conn.new)
-        → FirstFit (λ q. (q.asker == asker) && nat_le from q.item)
-        (λ q. q.item) QuestionFits (questions_in (state S.Store conn.old).now.trees)
-        → ¬ (IsErrOf result Damaged) }
     ensures spoiled { HasCleanDisk (state S.Store conn.new)
         → IsErrOf result Damaged
         → IsSpoiled question_of QuestionFits questions_text (Int (pos asker) ∷ Int (pos from) ∷ [])
         stray_asked_text (Int (pos asker) ∷ [])
         (state S.Store conn.old) (state S.Store conn.new) }
-    ensures read { OnlyReads (state S.Store conn.old) (state S.Store conn.new) result }
 {
     let rows = listed_rows(
         alloc,
@@ -164,18 +133,10 @@ pub fn questions_of<S: Alter>(
     from: u64,
 ) -> Result<Vec<Question>, KeepFault>
     requires { Serves (state S.Store conn.old) }
-    ensures asked { HasCleanDisk (state S.Store conn.new)
-        → IfOk result (λ asked. asked.items ≡ questions_of
-        (tables_in (state S.Store conn.old).now.trees) member from) }
+    ensures finds { Finds S.Store conn.old conn.new result
+        (λ db asked. asked.items ≡ questions_of (tables_in db) member from)
+        (λ db. AskedFit member (start_of from) (tables_in db).questions) }
     ensures fits { IfOk result (λ asked. AllByRecursion QuestionFits asked.items) }
-    ensures damaged { HasCleanDisk (state S.Store conn.new)
-        → AllByRecursion QuestionFits (questions_in (state S.Store conn.old).now.trees)
-        → ¬ (IsErrOf result Damaged) }
-    ensures reached { HasCleanDisk (state S.Store conn.new)
-        → FirstFit (λ q. (q.asker == member) && nat_le (start_of from) q.item)
-        (λ q. q.item) QuestionFits (tables_in (state S.Store conn.old).now.trees).questions
-        → ¬ (IsErrOf result Damaged) }
-    ensures read { OnlyReads (state S.Store conn.old) (state S.Store conn.new) result }
 {
     questions_from(alloc, conn, member, bound_of(from))
 }

@@ -1,6 +1,5 @@
 //! The statements on the table of questions.
 ghost use Rattle.std.specs.Prelude.{◌≡◌, None, find, IfOk, IfSome, OnOk, IsErrOf};
-ghost use Rattle.std.specs.List.{AllByRecursion};
 ghost use Rattle.sqlite.specs.State.{HasCleanDisk};
 ghost use Rattle.sqlite.specs.Held.{state};
 ghost use Rattle.house_rows.specs.Fits.{QuestionFits};
@@ -9,7 +8,7 @@ ghost use Rattle.house_rows.specs.Questions.{is_question};
 ghost use Rattle.store_rows.specs.House.{IsBegun, Serves, AddsQuestion};
 ghost use Rattle.store_talk.specs.Answers.{SetsAnswer};
 ghost use Rattle.store_rows.specs.Rows.{questions_in};
-ghost use Rattle.store_rows.specs.Frames.{WritesOnce, OnlyReads};
+ghost use Rattle.store_rows.specs.Frames.{Finds, WritesOnce};
 
 use house_rows::{KeepFault, Question};
 use sqlite::{Alter, Connection, Transaction, params};
@@ -73,18 +72,10 @@ pub fn question_at<S: Alter>(
     number: u32,
 ) -> Result<Option<Question>, KeepFault>
     requires { Serves (state S.Store conn.old) }
-    ensures found { HasCleanDisk (state S.Store conn.new)
-        → IfOk result (λ found. found ≡ find (is_question item asker number)
-        (questions_in (state S.Store conn.old).now.trees)) }
+    ensures finds { Finds S.Store conn.old conn.new result
+        (λ db found. found ≡ find (is_question item asker number) (questions_in db))
+        (λ db. IfSome (find (is_question item asker number) (questions_in db)) QuestionFits) }
     ensures fits { IfOk result (λ found. IfSome found QuestionFits) }
-    ensures damaged { HasCleanDisk (state S.Store conn.new)
-        → AllByRecursion QuestionFits (questions_in (state S.Store conn.old).now.trees)
-        → ¬ (IsErrOf result Damaged) }
-    ensures here { HasCleanDisk (state S.Store conn.new)
-        → IfSome (find (is_question item asker number)
-        (questions_in (state S.Store conn.old).now.trees)) QuestionFits
-        → ¬ (IsErrOf result Damaged) }
-    ensures read { OnlyReads (state S.Store conn.old) (state S.Store conn.new) result }
 {
     let rows = rows_shown(
         conn,

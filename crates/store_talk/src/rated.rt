@@ -1,18 +1,15 @@
 //! How members were rated.
-ghost use Rattle.std.specs.Prelude.{◌≡◌, IfOk, IsErrOf, ◌==◌};
-ghost use Rattle.sqlite.specs.State.{HasCleanDisk};
+ghost use Rattle.std.specs.Prelude.{◌≡◌, ◌==◌};
 ghost use Rattle.sqlite.specs.Held.{state};
 ghost use Rattle.house_rows.specs.History.{counted};
-ghost use Rattle.house_rows.specs.Keeping.{AreSound};
 ghost use Rattle.house_rows.specs.Taken.{FitWhere};
 ghost use Rattle.house_rows.specs.Pages.{ratings_of};
 ghost use Rattle.house_rows.specs.Ratings.{is_minus, is_plus, is_zero};
-ghost use Rattle.house_rows.specs.declared.fault.KeepFault.TheVariants.{Damaged};
 ghost use Rattle.house_rows.specs.Fits.{FeedbackFits};
 ghost use Rattle.store_rows.specs.Rows.{feedback_in};
 ghost use Rattle.store_rows.specs.House.{Serves};
 ghost use Rattle.store_rows.specs.Tables.{tables_in};
-ghost use Rattle.store_rows.specs.Frames.{OnlyReads};
+ghost use Rattle.store_rows.specs.Frames.{Finds};
 
 use crate::feedback::feedback_rows;
 use house_rows::{Feedback, KeepFault, Rating, Ratings};
@@ -45,17 +42,9 @@ pub fn ratings<S: Alter>(
     member: u32,
 ) -> Result<Ratings, KeepFault>
     requires { Serves (state S.Store conn.old) }
-    ensures value { HasCleanDisk (state S.Store conn.new)
-        → IfOk result (λ counts. counts ≡ ratings_of
-        (tables_in (state S.Store conn.old).now.trees).feedback member) }
-    ensures damaged { HasCleanDisk (state S.Store conn.new)
-        → AreSound (tables_in (state S.Store conn.old).now.trees)
-        → ¬ (IsErrOf result Damaged) }
-    ensures here { HasCleanDisk (state S.Store conn.new)
-        → FitWhere (λ f. f.to == member) FeedbackFits
-        (feedback_in (state S.Store conn.old).now.trees)
-        → ¬ (IsErrOf result Damaged) }
-    ensures read { OnlyReads (state S.Store conn.old) (state S.Store conn.new) result }
+    ensures { Finds S.Store conn.old conn.new result
+        (λ db counts. counts ≡ ratings_of (tables_in db).feedback member)
+        (λ db. FitWhere (λ f. f.to == member) FeedbackFits (feedback_in db)) }
 {
     let given = feedback_rows(alloc, conn, member)?;
     Ok(counts_of(&given))

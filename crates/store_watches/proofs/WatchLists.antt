@@ -10,7 +10,7 @@ use Rattle.sqlite_schema.specs.declared.schema.Constraint.TheVariants.{Unique}
 use Rattle.sqlite_catalog.specs.Listing.{IsSound}
 use Rattle.sqlite_sql.specs.Term.{Term}
 use Rattle.sqlite_sql.specs.Program.{overlay}
-use Rattle.sqlite_keyed.proofs.ListLemmas.{all-filter, all_both, all_unmap, all_weaker}
+use Rattle.sqlite_keyed.proofs.ListLemmas.{all-filter, all_both, all_weaker}
 use Rattle.sqlite_keyed.proofs.RuleLemmas.{first_of_both}
 use Rattle.sqlite.specs.Command.TheVariants.{Select}
 use Rattle.sqlite.specs.Effect.{Database}
@@ -80,11 +80,6 @@ module _ (member : ℕ) (low : member < 2 ^ 32) (old new : State) (answer : List
 
   small : (w : WatchRow) → WatchRowFits w → w.item < 2 ^ 32
   small w fits = omega (arith, fits.item.1)
-
-  pub watched_fit : AllByRecursion WatchRowFits (watches_in old.now.trees) → AllByRecursion (λ n. n < 2 ^ 32) (map item_shown answer)
-  watched_fit fits =
-      shown_fits test watch_shown two_columns params table answer listing item_shown (λ r. (watch_in r).item) (λ r. refl) (λ n. n < 2 ^ 32)
-      (all-filter (λ r. (watch_in r).item < 2 ^ 32) (passes test params) table (all_weaker (λ r. WatchRowFits (watch_in r)) (λ r. (watch_in r).item < 2 ^ 32) (λ r. small (watch_in r)) table (all_unmap WatchRowFits watch_in table fits)))
 
   -- where this member's watches fit
   pub watched_here : FitWhere (λ w. w.member == member) WatchRowFits (watches_in old.now.trees) → AllByRecursion (λ n. n < 2 ^ 32) (map item_shown answer)

@@ -9,7 +9,8 @@ use Rattle.sqlite_keyed.proofs.ListLemmas.{filter-map, filter_same}
 use Rattle.sqlite.specs.Effect.{Database}
 use Rattle.house_rows.specs.Editions.{BandTables}
 use Rattle.house_rows.specs.Found.{is_watched, items_watched}
-use Rattle.house_rows.specs.Keeping.{FitsBy}
+use Rattle.house_rows.specs.Fits.{WatchRowFits}
+use Rattle.house_rows.specs.Keeping.{AreSound, AreSoundBy, FitsBy}
 use Rattle.house_rows.specs.Taken.{FitWhere}
 use Rattle.house_rows.specs.Tables.{ItemRow}
 use Rattle.house_rows.specs.Watches.{WatchRow, is_watch}
@@ -21,7 +22,9 @@ use Rattle.store_rows.specs.ItemRows.{items_in}
 use Rattle.store_rows.specs.Sorted.{sorted_watches}
 use Rattle.store_rows.specs.Tables.{tables_in}
 use Rattle.store_items.specs.ConsistentRows.{RowFitsAt}
-use Rattle.store_watches.specs.Watched.{item_found}
+use Rattle.store_watches.specs.Watched.{WatchedFit, WatchesFit, item_found}
+use Rattle.store_rows.specs.Rows.{watches_in}
+use Rattle.store_rows.proofs.Sound.{rows_fit, watches_fit}
 use Rattle.store_items.proofs.ItemRising.{items_rise, number_of}
 use Rattle.store_rows.proofs.Joined.{among, each_among, joined}
 
@@ -70,3 +73,13 @@ watched_fit_at db editions member numbers are fits =
     every_as (λ (row : ItemRow). list_any (is_watch member (number_of row)) watches ≡ true → FitsBy editions row) (λ (row : ItemRow). number_of row ≡ n → FitsBy editions row) (items_in db)
     (λ row fit same. fit (subst (λ (i : ℕ). list_any (is_watch member i) watches ≡ true) (sym same) is)) fits in
     each_among (RowFitsAt editions db) numbers (λ n is. here n (sym (ap (list_any (λ m. n == m)) are ∙ watched_among member n watches) ∙ is))
+
+-- in sound tables the rows of a member's watches fit, and those of the items that it watches
+pub watches_sound : (member : ℕ) (db : Trees) → AreSound (tables_in db) → WatchesFit member db
+watches_sound member db sound = every_as WatchRowFits (λ (w : WatchRow). (w.member == member) ≡ true → WatchRowFits w) (watches_in db) (λ w fit is. fit) (watches_fit db sound)
+
+pub watched_sound : (editions : BandTables) (member : ℕ) (db : Trees) → AreSoundBy editions (tables_in db) → WatchedFit editions member db
+watched_sound editions member db sound = record {
+  watches = watches_sound member db sound.sound;
+  items = every_as (FitsBy editions) (λ (row : ItemRow). is_watched (tables_in db) member row.item.terms.item ≡ true → FitsBy editions row) (items_in db) (λ row fit is. fit) (rows_fit db editions sound);
+}

@@ -4,11 +4,10 @@ use Rattle.sqlite.specs.State.{HasCleanDisk, IsUnchanged, Survives}
 use Rattle.sqlite.specs.Held.{state}
 use Rattle.house_rows.specs.Fits.{OwnBidFits}
 use Rattle.house_rows.specs.Limits.{most_shown}
-use Rattle.house_rows.specs.declared.item.OwnBid.{OwnBid}
 use Rattle.store_rows.specs.Tables.{tables_in}
+use Rattle.store_bids.specs.Listed.{ItemsAreConsistent}
 use Rattle.store_bids.specs.OwnBids.{own_found}
 use Rattle.store_bids.specs.Reached.{FitInTurn}
-use Rattle.store_items.specs.ConsistentRows.{ItemIsConsistent}
 use Rattle.store_bids.proofs.bid_lists.add_own_bids.Given as goal
 
 abbrev pub invariant-loop-number : goal.invariant-loop-number
@@ -17,7 +16,7 @@ invariant-loop-number g l =
     let now = state g.S.Store l.conn in
     let t = tables_in old.now.trees in
     let F = own_found t l.member in
-    let P = λ (b : OwnBid). ItemIsConsistent l.rules.editions old.now.trees b.item in
+    let Q = ItemsAreConsistent l.rules.editions old.now.trees in
     record {
       survives : Survives old now (λ _. ⊥);
       same : HasCleanDisk now → IsUnchanged old now;
@@ -25,6 +24,6 @@ invariant-loop-number g l =
       found : HasCleanDisk now → take most_shown (l.found.items ++ flat_map F (drop l.number-index l.numbers)) ≡ take most_shown (l.fn.found.items ++ flat_map F l.numbers);
       few : length l.found.items ≤ most_shown;
       fits : AllByRecursion OwnBidFits l.fn.found.items → AllByRecursion OwnBidFits l.found.items;
-      is_consistent : HasCleanDisk now → AllByRecursion P l.fn.found.items → AllByRecursion P l.found.items;
+      is_consistent : HasCleanDisk now → Q l.fn.found.items → Q l.found.items;
       reached : HasCleanDisk now → FitInTurn l.rules.editions t l.member (length l.fn.found.items) l.numbers → FitInTurn l.rules.editions t l.member (length l.found.items) (drop l.number-index l.numbers);
     }

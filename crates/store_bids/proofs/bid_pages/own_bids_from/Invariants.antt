@@ -4,10 +4,9 @@ use Rattle.sqlite.specs.State.{HasCleanDisk, IsUnchanged, Survives}
 use Rattle.sqlite.specs.Held.{state}
 use Rattle.house_rows.specs.Fits.{OwnBidFits}
 use Rattle.house_rows.specs.Limits.{most_shown}
-use Rattle.house_rows.specs.declared.item.OwnBid.{OwnBid}
+use Rattle.store_bids.specs.Listed.{ItemsAreConsistent}
 use Rattle.store_bids.specs.OwnBids.{found_from}
 use Rattle.store_bids.specs.Reached.{FitFrom}
-use Rattle.store_items.specs.ConsistentRows.{ItemIsConsistent}
 use Rattle.store_bids.proofs.bid_pages.own_bids_from.Given as goal
 
 abbrev pub invariant-bids : goal.invariant-bids
@@ -21,7 +20,7 @@ invariant-bids g l =
       found : HasCleanDisk now → take most_shown (l.found.items ++ found_from old.now.trees l.member l.next) ≡ take most_shown (found_from old.now.trees l.member l.from);
       few : length l.found.items ≤ most_shown;
       fits : AllByRecursion OwnBidFits l.found.items;
-      is_consistent : HasCleanDisk now → AllByRecursion (λ (b : OwnBid). ItemIsConsistent l.rules.editions old.now.trees b.item) l.found.items;
+      is_consistent : HasCleanDisk now → ItemsAreConsistent l.rules.editions old.now.trees l.found.items;
       reached : HasCleanDisk now → FitFrom l.rules.editions old.now.trees l.member 0 l.from → FitFrom l.rules.editions old.now.trees l.member (length l.found.items) l.next;
     }
 

@@ -18,31 +18,31 @@ has_bid-requires g c clean =
 
 pub returns-then-is_taken-clause-taken : goal.returns-then-is_taken-clause-taken
 returns-then-is_taken-clause-taken g c = λ clean calm e.
-    let mid : HasCleanDisk (state g.S.Store c.is_still_open.new.conn) = omega (arith, c.has_bid.ensures.read.crash.clean, clean) in
+    let mid : HasCleanDisk (state g.S.Store c.is_still_open.new.conn) = omega (arith, c.has_bid.ensures.finds.read.crash.clean, clean) in
     let same = (c.is_still_open.ensures.same mid c.if-not-is_still_open.false).0 in
-    let found = sym (bids_sorted (state g.S.Store c.is_still_open.new.conn).now.trees c.args.item c.args.number) ∙ sym (c.in-Ok.ensures.found clean) ∙ c.if-is_taken.true in
+    let found = sym (bids_sorted (state g.S.Store c.is_still_open.new.conn).now.trees c.args.item c.args.number) ∙ sym (c.in-Ok.ensures.finds.value clean) ∙ c.if-is_taken.true in
     (same.was_open, subst (λ (db : Database). list_any (λ b. (b.item == c.args.item) && (b.bid.no == c.args.number)) (tables_in db.trees).bids ≡ true) same.now_is found)
 
 pub returns-then-is_taken-clause-kept : goal.returns-then-is_taken-clause-kept
 returns-then-is_taken-clause-kept g c = λ clean.
-    let mid : HasCleanDisk (state g.S.Store c.is_still_open.new.conn) = omega (arith, c.has_bid.ensures.read.crash.clean, clean) in
-    inl (both_same _ _ _ (c.is_still_open.ensures.same mid c.if-not-is_still_open.false) (c.in-Ok.ensures.read.same clean))
+    let mid : HasCleanDisk (state g.S.Store c.is_still_open.new.conn) = omega (arith, c.has_bid.ensures.finds.read.crash.clean, clean) in
+    inl (both_same _ _ _ (c.is_still_open.ensures.same mid c.if-not-is_still_open.false) (c.in-Ok.ensures.finds.read.same clean))
 
 pub returns-else-is_taken-clause-kept : goal.returns-else-is_taken-clause-kept
 returns-else-is_taken-clause-kept g c = λ clean.
-    let mid : HasCleanDisk (state g.S.Store c.is_still_open.new.conn) = omega (arith, c.has_bid.ensures.read.crash.clean, clean) in
-    inl (both_same _ _ _ (c.is_still_open.ensures.same mid c.if-not-is_still_open.false) (c.in-Ok.ensures.read.same clean))
+    let mid : HasCleanDisk (state g.S.Store c.is_still_open.new.conn) = omega (arith, c.has_bid.ensures.finds.read.crash.clean, clean) in
+    inl (both_same _ _ _ (c.is_still_open.ensures.same mid c.if-not-is_still_open.false) (c.in-Ok.ensures.finds.read.same clean))
 
 pub returns-in-Err-clause-kept : goal.returns-in-Err-clause-kept
 returns-in-Err-clause-kept g c = λ clean.
-    let mid : HasCleanDisk (state g.S.Store c.is_still_open.new.conn) = omega (arith, c.has_bid.ensures.read.crash.clean, clean) in
-    ended_after _ _ _ (c.is_still_open.ensures.same mid c.if-not-is_still_open.false) (c.in-Err.ensures.read.err clean)
+    let mid : HasCleanDisk (state g.S.Store c.is_still_open.new.conn) = omega (arith, c.has_bid.ensures.finds.read.crash.clean, clean) in
+    ended_after _ _ _ (c.is_still_open.ensures.same mid c.if-not-is_still_open.false) (c.in-Err.ensures.finds.read.err clean)
 
 pub returns-then-is_taken-clause-crash : goal.returns-then-is_taken-clause-crash
-returns-then-is_taken-clause-crash g c = both_survive _ _ _ c.is_still_open.ensures.crash c.has_bid.ensures.read.crash
+returns-then-is_taken-clause-crash g c = both_survive _ _ _ c.is_still_open.ensures.crash c.has_bid.ensures.finds.read.crash
 
 pub returns-else-is_taken-clause-crash : goal.returns-else-is_taken-clause-crash
-returns-else-is_taken-clause-crash g c = both_survive _ _ _ c.is_still_open.ensures.crash c.has_bid.ensures.read.crash
+returns-else-is_taken-clause-crash g c = both_survive _ _ _ c.is_still_open.ensures.crash c.has_bid.ensures.finds.read.crash
 
 pub returns-in-Err-clause-crash : goal.returns-in-Err-clause-crash
-returns-in-Err-clause-crash g c = both_survive _ _ _ c.is_still_open.ensures.crash c.has_bid.ensures.read.crash
+returns-in-Err-clause-crash g c = both_survive _ _ _ c.is_still_open.ensures.crash c.has_bid.ensures.finds.read.crash

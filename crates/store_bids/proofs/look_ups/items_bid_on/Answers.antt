@@ -16,22 +16,23 @@ first_rows-requires-clause-plain g c = items_bid_is.2
 pub first_rows-requires-clause-finite : goal.first_rows-requires-clause-finite
 first_rows-requires-clause-finite g c = items_bid_finite
 
-pub returns-clause-items : goal.returns-clause-items
-returns-clause-items g c clean =
+pub returns : goal.returns
+returns g c =
     let low : c.args.member < 2 ^ 32 = omega (arith, c.ranges.member) in
     let small : c.args.from < 2 ^ 32 = omega (arith, c.ranges.from) in
+    let old = state g.S.Store c.args.conn.now in
+    let new = state g.S.Store c.first_rows.new.conn in
     let same : c.deref.result.now ≡ c.in_ok-rows.rows.items = search rules in
-    let first = rw (c.params-to_sql.ensures, c.params-to_sql-2.ensures) at (c.in_ok-rows.ensures.rows clean) in
-    let found = items_shown c.args.member c.args.from low small (state g.S.Store c.args.conn.now) (state g.S.Store c.first_rows.new.conn) (c.first_rows.ensures.house clean) c.in_ok-rows.rows.items first in
-    ok_then c.all_of.result c.all_of.ensures.value (λ _ e. e ∙ ap (map report) same ∙ found)
-
-pub returns-clause-sound : goal.returns-clause-sound
-returns-clause-sound g c clean =
-    let low : c.args.member < 2 ^ 32 = omega (arith, c.ranges.member) in
-    let small : c.args.from < 2 ^ 32 = omega (arith, c.ranges.from) in
-    let same : c.deref.result.now ≡ c.in_ok-rows.rows.items = search rules in
-    let first = rw (c.params-to_sql.ensures, c.params-to_sql-2.ensures) at (c.in_ok-rows.ensures.rows clean) in
-    let found = items_shown c.args.member c.args.from low small (state g.S.Store c.args.conn.now) (state g.S.Store c.first_rows.new.conn) (c.first_rows.ensures.house clean) c.in_ok-rows.rows.items first in
-    let items = items_bid_on (sorted_bids (state g.S.Store c.args.conn.now).now.trees) c.args.member in
-    let fits = all-take (λ n. n < 2 ^ 32) 50 (filter (nat_le c.args.from) items) (all-filter (λ n. n < 2 ^ 32) (nat_le c.args.from) items (low_items (sorted_bids (state g.S.Store c.args.conn.now).now.trees) c.args.member)) in
-    c.all_of.ensures.damaged (subst (AllByRecursion (λ n. n < 2 ^ 32)) (sym (ap (map report) same ∙ found)) fits)
+    record {
+      value = λ clean. (
+          let first = rw (c.params-to_sql.ensures, c.params-to_sql-2.ensures) at (c.in_ok-rows.ensures.rows clean) in
+          let found = items_shown c.args.member c.args.from low small old new (c.first_rows.ensures.house clean) c.in_ok-rows.rows.items first in
+          ok_then c.all_of.result c.all_of.ensures.value (λ _ e. e ∙ ap (map report) same ∙ found));
+      damaged = λ clean _. (
+          let first = rw (c.params-to_sql.ensures, c.params-to_sql-2.ensures) at (c.in_ok-rows.ensures.rows clean) in
+          let found = items_shown c.args.member c.args.from low small old new (c.first_rows.ensures.house clean) c.in_ok-rows.rows.items first in
+          let items = items_bid_on (sorted_bids old.now.trees) c.args.member in
+          let fits = all-take (λ n. n < 2 ^ 32) 50 (filter (nat_le c.args.from) items) (all-filter (λ n. n < 2 ^ 32) (nat_le c.args.from) items (low_items (sorted_bids old.now.trees) c.args.member)) in
+          c.all_of.ensures.damaged (subst (AllByRecursion (λ n. n < 2 ^ 32)) (sym (ap (map report) same ∙ found)) fits));
+      read = search rules;
+    }

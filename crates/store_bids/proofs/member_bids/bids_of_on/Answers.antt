@@ -13,25 +13,24 @@ use Rattle.store_bids.proofs.member_bids.bids_of_on.Goals as goal
 pub rows_shown-requires-clause-plain : goal.rows_shown-requires-clause-plain
 rows_shown-requires-clause-plain g c = bids_is.2
 
-pub returns-clause-bids : goal.returns-clause-bids
-returns-clause-bids g c clean =
+pub returns-clause-finds : goal.returns-clause-finds
+returns-clause-finds g c =
     let low : c.args.member < 2 ^ 32 = omega (arith, c.ranges.member) in
     let small : c.args.item < 2 ^ 32 = omega (arith, c.ranges.item) in
+    let old = state g.S.Store c.args.conn.now in
+    let new = state g.S.Store c.rows_shown.new.conn in
     let items = c.in_ok-rows.rows.items in
     let same : c.deref.result.now ≡ items = search rules in
-    let shown = rw (c.params-to_sql.ensures, c.params-to_sql-2.ensures) at (c.in_ok-rows.ensures.rows clean) in
-    ok_both c.all_of.result c.all_of.ensures.value c.all_of.ensures.fits (λ all e fits.
-    let report = e ∙ ap (map bid_alone) same in
-    report ∙ bids_shown c.args.member c.args.item low small (state g.S.Store c.args.conn.now) (state g.S.Store c.rows_shown.new.conn) items (c.rows_shown.ensures.house clean) shown (subst (AllByRecursion BidFits) report fits))
-
-pub returns-clause-here : goal.returns-clause-here
-returns-clause-here g c clean fits =
-    let low : c.args.member < 2 ^ 32 = omega (arith, c.ranges.member) in
-    let small : c.args.item < 2 ^ 32 = omega (arith, c.ranges.item) in
-    let items = c.in_ok-rows.rows.items in
-    let same : c.deref.result.now ≡ items = search rules in
-    let shown = rw (c.params-to_sql.ensures, c.params-to_sql-2.ensures) at (c.in_ok-rows.ensures.rows clean) in
-    let db = (state g.S.Store c.args.conn.now).now.trees in
-    let stored = every_stored bid_key (λ (b : BidRow). b.bid.member ≡ c.args.member → b.item ≡ c.args.item → BidRowFits b) (bids_in db) fits in
-    c.all_of.ensures.damaged (subst (AllByRecursion BidFits) (sym (ap (map bid_alone) same))
-    (bids_fit c.args.member c.args.item low small (state g.S.Store c.args.conn.now) (state g.S.Store c.rows_shown.new.conn) items (c.rows_shown.ensures.house clean) shown stored))
+    record {
+      value = λ clean. (
+          let shown = rw (c.params-to_sql.ensures, c.params-to_sql-2.ensures) at (c.in_ok-rows.ensures.rows clean) in
+          ok_both c.all_of.result c.all_of.ensures.value c.all_of.ensures.fits (λ all e fits.
+          let report = e ∙ ap (map bid_alone) same in
+          report ∙ bids_shown c.args.member c.args.item low small old new items (c.rows_shown.ensures.house clean) shown (subst (AllByRecursion BidFits) report fits)));
+      damaged = λ clean fits. (
+          let shown = rw (c.params-to_sql.ensures, c.params-to_sql-2.ensures) at (c.in_ok-rows.ensures.rows clean) in
+          let stored = every_stored bid_key (λ (b : BidRow). b.bid.member ≡ c.args.member → b.item ≡ c.args.item → BidRowFits b) (bids_in old.now.trees) fits in
+          c.all_of.ensures.damaged (subst (AllByRecursion BidFits) (sym (ap (map bid_alone) same))
+          (bids_fit c.args.member c.args.item low small old new items (c.rows_shown.ensures.house clean) shown stored)));
+      read = search rules;
+    }

@@ -1,8 +1,8 @@
-use Rattle.std.proofs.Common.{◌≡◌, ◌<◌, ◌^◌, ◌∙◌, ap, arith, rules, slice_get, option_map, sym, subst, IfSome}
+use Rattle.std.proofs.Common.{◌≡◌, ◌<◌, ◌^◌, ◌∙◌, IfSome, ap, arith, option_map, rules, slice_get, subst, sym}
 use Rattle.sqlite.specs.Held.{state}
-use Rattle.store_rows.specs.Rows.{category_of}
+use Rattle.sqlite.specs.State.{HasCleanDisk}
 use Rattle.house_rows.specs.Fits.{CategoryFits}
-use Rattle.store_rows.proofs.ShownRows.{first_fits}
+use Rattle.store_rows.specs.Rows.{category_of}
 use Rattle.store_rows.proofs.StateLemmas.{ok_then}
 use Rattle.store_house.proofs.CategoryMeaning.{at_is}
 use Rattle.store_house.proofs.CategoryLemmas.{first_at}
@@ -11,26 +11,18 @@ use Rattle.store_house.proofs.categories.category_at.Goals as goal
 pub rows_shown-requires-clause-plain : goal.rows_shown-requires-clause-plain
 rows_shown-requires-clause-plain g c = at_is.2
 
-pub returns-clause-found : goal.returns-clause-found
-returns-clause-found g c clean =
+pub returns-clause-finds : goal.returns-clause-finds
+returns-clause-finds g c =
+    let old = state g.S.Store c.args.conn.now in
+    let new = state g.S.Store c.rows_shown.new.conn in
+    let rows = c.in_ok-rows.rows.items in
+    let same : c.deref.result.now ≡ rows = search rules in
     let low : c.args.number < 2 ^ 32 = omega (arith, c.ranges.number) in
+    let found = λ (clean : HasCleanDisk new). (
     let shown = rw c.params-to_sql.ensures at (c.in_ok-rows.ensures.rows clean) in
-    let same : c.deref.result.now ≡ c.in_ok-rows.rows.items = search rules in
-    let found = first_at (state g.S.Store c.args.conn.now) (state g.S.Store c.rows_shown.new.conn) c.in_ok-rows.rows.items (c.rows_shown.ensures.house clean) c.args.number low shown in
-    ok_then c.first_of.result c.first_of.ensures.value (λ _ e. e ∙ ap (λ l. option_map category_of (slice_get l 0)) same ∙ found)
-
-pub returns-clause-damaged : goal.returns-clause-damaged
-returns-clause-damaged g c clean fits =
-    let low : c.args.number < 2 ^ 32 = omega (arith, c.ranges.number) in
-    let shown = rw c.params-to_sql.ensures at (c.in_ok-rows.ensures.rows clean) in
-    let same : c.deref.result.now ≡ c.in_ok-rows.rows.items = search rules in
-    let found = first_at (state g.S.Store c.args.conn.now) (state g.S.Store c.rows_shown.new.conn) c.in_ok-rows.rows.items (c.rows_shown.ensures.house clean) c.args.number low shown in
-    c.first_of.ensures.damaged (first_fits category_of CategoryFits c.deref.result.now _ _ (ap (λ l. option_map category_of (slice_get l 0)) same ∙ found) fits)
-
-pub returns-clause-here : goal.returns-clause-here
-returns-clause-here g c clean fits =
-    let low : c.args.number < 2 ^ 32 = omega (arith, c.ranges.number) in
-    let shown = rw c.params-to_sql.ensures at (c.in_ok-rows.ensures.rows clean) in
-    let same : c.deref.result.now ≡ c.in_ok-rows.rows.items = search rules in
-    let found = first_at (state g.S.Store c.args.conn.now) (state g.S.Store c.rows_shown.new.conn) c.in_ok-rows.rows.items (c.rows_shown.ensures.house clean) c.args.number low shown in
-    c.first_of.ensures.damaged (subst (λ o. IfSome o CategoryFits) (sym (ap (λ l. option_map category_of (slice_get l 0)) same ∙ found)) fits)
+    ap (λ l. option_map category_of (slice_get l 0)) same ∙ first_at old new rows (c.rows_shown.ensures.house clean) c.args.number low shown) in
+    record {
+      value = λ clean. ok_then c.first_of.result c.first_of.ensures.value (λ _ e. e ∙ found clean);
+      damaged = λ clean fits. c.first_of.ensures.damaged (subst (λ o. IfSome o CategoryFits) (sym (found clean)) fits);
+      read = search rules;
+    }

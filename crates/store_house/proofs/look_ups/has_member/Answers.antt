@@ -2,7 +2,6 @@ use Rattle.std.proofs.Common.{◌≡◌, ◌==◌, ◌<◌, ◌^◌, ◌∙◌, 
 use Rattle.sqlite.specs.Held.{state}
 use Rattle.house_rows.specs.Fits.{IsMember, MemberFits}
 use Rattle.house_rows.specs.declared.people.Member.{Member}
-use Rattle.house_rows.proofs.Every.{found_number}
 use Rattle.store_rows.specs.Rows.{members_in}
 use Rattle.store_house.proofs.FindMeaning.{has_member_is}
 use Rattle.store_house.proofs.PeopleFinds.{here_number, member_found}
@@ -12,40 +11,46 @@ use Rattle.store_house.proofs.look_ups.has_member.Goals.{else-member-ge1-via-the
 pub rows_shown-requires-clause-plain : goal.rows_shown-requires-clause-plain
 rows_shown-requires-clause-plain g c = has_member_is.2
 
-pub returns-then-is_empty-clause-found : goal.returns-then-is_empty-clause-found
-returns-then-is_empty-clause-found g c clean =
+pub returns-then-is_empty-clause-finds : goal.returns-then-is_empty-clause-finds
+returns-then-is_empty-clause-finds g c =
+    let old = state g.S.Store c.args.conn.now in
     let low : c.args.member < 2 ^ 32 = omega (arith, c.ranges.member) in
-    let shown = rw c.params-to_sql.ensures at (c.in_ok-rows.ensures.rows clean) in
     let none : c.is_empty.result ≡ (length c.in_ok-rows.rows.items == 0) = search rules in
-    ap not (sym c.if-is_empty.true ∙ none) ∙ member_found c.args.member low (state g.S.Store c.args.conn.now) (state g.S.Store c.rows_shown.new.conn) c.in_ok-rows.rows.items (c.rows_shown.ensures.house clean) shown
+    record {
+      value = λ clean. (
+          let shown = rw c.params-to_sql.ensures at (c.in_ok-rows.ensures.rows clean) in
+          ap not (sym c.if-is_empty.true ∙ none) ∙ member_found c.args.member low old (state g.S.Store c.rows_shown.new.conn) c.in_ok-rows.rows.items (c.rows_shown.ensures.house clean) shown);
+      damaged = search rules;
+      read = search rules;
+    }
 
-pub returns-then-member-le-MOST_MEMBERS-clause-found : goal.returns-then-member-le-MOST_MEMBERS-clause-found
-returns-then-member-le-MOST_MEMBERS-clause-found g c clean =
+pub returns-then-member-le-MOST_MEMBERS-clause-finds : goal.returns-then-member-le-MOST_MEMBERS-clause-finds
+returns-then-member-le-MOST_MEMBERS-clause-finds g c =
+    let old = state g.S.Store c.args.conn.now in
     let low : c.args.member < 2 ^ 32 = omega (arith, c.ranges.member) in
-    let shown = rw c.params-to_sql.ensures at (c.in_ok-rows.ensures.rows clean) in
     let none : c.is_empty.result ≡ (length c.in_ok-rows.rows.items == 0) = search rules in
-    ap not (sym c.if-is_empty.false ∙ none) ∙ member_found c.args.member low (state g.S.Store c.args.conn.now) (state g.S.Store c.rows_shown.new.conn) c.in_ok-rows.rows.items (c.rows_shown.ensures.house clean) shown
+    record {
+      value = λ clean. (
+          let shown = rw c.params-to_sql.ensures at (c.in_ok-rows.ensures.rows clean) in
+          ap not (sym c.if-is_empty.false ∙ none) ∙ member_found c.args.member low old (state g.S.Store c.rows_shown.new.conn) c.in_ok-rows.rows.items (c.rows_shown.ensures.house clean) shown);
+      damaged = search rules;
+      read = search rules;
+    }
 
-pub returns-clause-damaged : goal.returns-clause-damaged
-returns-clause-damaged g c clean fits is =
+pub returns-clause-finds : goal.returns-clause-finds
+returns-clause-finds g c =
+    let old = state g.S.Store c.args.conn.now in
     let low : c.args.member < 2 ^ 32 = omega (arith, c.ranges.member) in
-    let shown = rw c.params-to_sql.ensures at (c.in_ok-rows.ensures.rows clean) in
     let none : c.is_empty.result ≡ (length c.in_ok-rows.rows.items == 0) = search rules in
-    let some = member_found c.args.member low (state g.S.Store c.args.conn.now) (state g.S.Store c.rows_shown.new.conn) c.in_ok-rows.rows.items (c.rows_shown.ensures.house clean) shown in
-    let within = found_number (λ (row : Member). row.member) MemberFits (IsMember) c.args.member (members_in (state g.S.Store c.args.conn.now).now.trees) (λ row fit. fit.member) fits (sym (ap not (sym c.if-is_empty.false ∙ none) ∙ some)) in
-    elim c.else-member-ge1.branch [
-      | else-member-ge1-via-then-member-ge1+else-member-le-MOST_MEMBERS w ↦ omega (arith, within.1, w.if-member-le-MOST_MEMBERS.false)
-      | else-member-ge1-via-else-member-ge1 w ↦ omega (arith, within.0, w.if-member-ge1.false)
-    ]
-
-pub returns-clause-here : goal.returns-clause-here
-returns-clause-here g c clean fits is =
-    let low : c.args.member < 2 ^ 32 = omega (arith, c.ranges.member) in
-    let shown = rw c.params-to_sql.ensures at (c.in_ok-rows.ensures.rows clean) in
-    let none : c.is_empty.result ≡ (length c.in_ok-rows.rows.items == 0) = search rules in
-    let some = member_found c.args.member low (state g.S.Store c.args.conn.now) (state g.S.Store c.rows_shown.new.conn) c.in_ok-rows.rows.items (c.rows_shown.ensures.house clean) shown in
-    let within = here_number (λ (row : Member). row.member) MemberFits (IsMember) c.args.member (members_in (state g.S.Store c.args.conn.now).now.trees) (λ row fit. fit.member) fits (sym (ap not (sym c.if-is_empty.false ∙ none) ∙ some)) in
-    elim c.else-member-ge1.branch [
-      | else-member-ge1-via-then-member-ge1+else-member-le-MOST_MEMBERS w ↦ omega (arith, within.1, w.if-member-le-MOST_MEMBERS.false)
-      | else-member-ge1-via-else-member-ge1 w ↦ omega (arith, within.0, w.if-member-ge1.false)
-    ]
+    record {
+      value = search rules;
+      damaged = λ clean fits is. (
+          let shown = rw c.params-to_sql.ensures at (c.in_ok-rows.ensures.rows clean) in
+          let some = ap not (sym c.if-is_empty.false ∙ none) ∙ member_found c.args.member low old (state g.S.Store c.rows_shown.new.conn) c.in_ok-rows.rows.items (c.rows_shown.ensures.house clean) shown in
+          let within = here_number (λ (row : Member). row.member) MemberFits IsMember c.args.member (members_in old.now.trees) (λ row fit. fit.member) fits (sym some) in
+          elim c.else-member-ge1.branch [
+            | else-member-ge1-via-then-member-ge1+else-member-le-MOST_MEMBERS w ↦ omega (arith, within.1, w.if-member-le-MOST_MEMBERS.false)
+            | else-member-ge1-via-else-member-ge1 w ↦ omega (arith, within.0, w.if-member-ge1.false)
+          ]);
+      read = search rules;
+    }

@@ -18,34 +18,36 @@ shows_none-requires-clause-plain g c = categories_below_is.2
 pub shows_none-requires-2-clause-plain : goal.shows_none-requires-2-clause-plain
 shows_none-requires-2-clause-plain g c = categories_above_is.2
 
-pub returns-clause-within : goal.returns-clause-within
-returns-clause-within g c clean =
+pub returns-in_err-shows_none : goal.returns-in_err-shows_none
+returns-in_err-shows_none g c = record {
+  value = search rules;
+  damaged = λ clean all. (
+      let old = state g.S.Store c.args.conn.now in
+      let low : c.args.most < 2 ^ 32 = omega (arith, c.ranges.most) in
+      let calm = c.in_err-shows_none.ensures.damaged clean (λ rows. categories_none_below old (state g.S.Store c.shows_none.new.conn) c.args.most rows low (c.shows_none.ensures.house clean) all) in
+      search rules);
+  read = search rules;
+}
+
+pub returns : goal.returns
+returns g c =
     let old = state g.S.Store c.args.conn.now in
     let middle = state g.S.Store c.shows_none.new.conn in
     let new = state g.S.Store c.shows_none-2.new.conn in
-    let early : HasCleanDisk middle = omega (arith, c.shows_none-2.ensures.read.crash.clean) in
-    let house = c.shows_none.ensures.house early in
     let low : c.args.most < 2 ^ 32 = omega (arith, c.ranges.most) in
-    let below = categories_below old middle house (c.in_ok-shows_none.ensures.none early) in
-    let same : middle.now ≡ old.now = (c.in_ok-shows_none.ensures.read.same early).0.now_is in
-    let seen = rw c.params-to_sql.ensures at (c.shows_none-2.ensures.none clean) in
-    on_ok_weaker c.shows_none-2.result (λ shown. categories_within old.now c.args.most low house below
-    (subst (λ (db : Database). AllByRecursion (λ r. passes is_above (Int (pos c.args.most) ∷ []) r ≡ false) (db.trees 4)) same (categories_above middle new c.args.most (c.shows_none-2.ensures.house clean) shown))) seen
-
-pub returns-in_err-shows_none-clause-damaged : goal.returns-in_err-shows_none-clause-damaged
-returns-in_err-shows_none-clause-damaged g c clean all =
-    let old = state g.S.Store c.args.conn.now in
-    let low : c.args.most < 2 ^ 32 = omega (arith, c.ranges.most) in
-    let calm = c.in_err-shows_none.ensures.damaged clean (λ rows. categories_none_below old (state g.S.Store c.shows_none.new.conn) c.args.most rows low (c.shows_none.ensures.house clean) all) in
-    search rules
-
-pub returns-clause-damaged : goal.returns-clause-damaged
-returns-clause-damaged g c clean all =
-    let old = state g.S.Store c.args.conn.now in
-    let middle = state g.S.Store c.shows_none.new.conn in
-    let new = state g.S.Store c.shows_none-2.new.conn in
-    let early : HasCleanDisk middle = omega (arith, c.shows_none-2.ensures.read.crash.clean) in
-    let low : c.args.most < 2 ^ 32 = omega (arith, c.ranges.most) in
-    let same : middle.now ≡ old.now = (c.in_ok-shows_none.ensures.read.same early).0.now_is in
-    let still = subst (λ (db : Database). AllByRecursion (λ k. IsWithin 1 c.args.most k.category) (categories_in db.trees)) (sym same) all in
-    c.shows_none-2.ensures.damaged clean (λ rows shown. categories_none_above middle new c.args.most rows low (c.shows_none-2.ensures.house clean) still (rw c.params-to_sql.ensures at shown))
+    record {
+      value = λ clean. (
+          let early : HasCleanDisk middle = omega (arith, c.shows_none-2.ensures.read.crash.clean) in
+          let house = c.shows_none.ensures.house early in
+          let below = categories_below old middle house (c.in_ok-shows_none.ensures.none early) in
+          let same : middle.now ≡ old.now = (c.in_ok-shows_none.ensures.read.same early).0.now_is in
+          let seen = rw c.params-to_sql.ensures at (c.shows_none-2.ensures.none clean) in
+          on_ok_weaker c.shows_none-2.result (λ shown. categories_within old.now c.args.most low house below
+          (subst (λ (db : Database). AllByRecursion (λ r. passes is_above (Int (pos c.args.most) ∷ []) r ≡ false) (db.trees 4)) same (categories_above middle new c.args.most (c.shows_none-2.ensures.house clean) shown))) seen);
+      damaged = λ clean all. (
+          let early : HasCleanDisk middle = omega (arith, c.shows_none-2.ensures.read.crash.clean) in
+          let same : middle.now ≡ old.now = (c.in_ok-shows_none.ensures.read.same early).0.now_is in
+          let still = subst (λ (db : Database). AllByRecursion (λ k. IsWithin 1 c.args.most k.category) (categories_in db.trees)) (sym same) all in
+          c.shows_none-2.ensures.damaged clean (λ rows shown. categories_none_above middle new c.args.most rows low (c.shows_none-2.ensures.house clean) still (rw c.params-to_sql.ensures at shown)));
+      read = search rules;
+    }

@@ -17,16 +17,21 @@ rows_shown-requires-clause-serves g c = serves c.args.rules.now.reserves (state 
 pub rows_shown-requires-clause-plain : goal.rows_shown-requires-clause-plain
 rows_shown-requires-clause-plain g c = all_items_is.2
 
-pub returns-clause-items : goal.returns-clause-items
-returns-clause-items g c clean =
-    let known = (c.requires (omega (arith, c.rows_shown.ensures.read.crash.clean, clean))).2 in
-    let same : c.deref.result.now ≡ c.in_ok-rows.rows.items = search rules in
-    let found = items_answer (state g.S.Store c.args.conn.now) (state g.S.Store c.rows_shown.new.conn) c.in_ok-rows.rows.items (c.rows_shown.ensures.house clean) (c.in_ok-rows.ensures.rows clean) in
-    ok_then c.item_list.result c.item_list.ensures.value (λ _ e. e ∙ ap (λ rs. map (item_by rs) c.deref.result.now) known ∙ ap (map (item_by (reserves_in (state g.S.Store c.args.conn.now).now.trees))) same ∙ found)
-
-pub returns-clause-damaged : goal.returns-clause-damaged
-returns-clause-damaged g c clean fits =
-    let known = (c.requires (omega (arith, c.rows_shown.ensures.read.crash.clean, clean))).2 in
-    let same : c.deref.result.now ≡ c.in_ok-rows.rows.items = search rules in
-    let hold = items_hold (state g.S.Store c.args.conn.now) (state g.S.Store c.rows_shown.new.conn) c.in_ok-rows.rows.items (c.rows_shown.ensures.house clean) c.args.rules.now.editions fits (c.in_ok-rows.ensures.rows clean) in
-    c.item_list.ensures.damaged (subst (λ rs. AllByRecursion (ItemHolds c.args.rules.now.editions rs) c.deref.result.now) (sym known) (subst (AllByRecursion (ItemHolds c.args.rules.now.editions (reserves_in (state g.S.Store c.args.conn.now).now.trees))) (sym same) hold))
+pub returns-clause-finds : goal.returns-clause-finds
+returns-clause-finds g c =
+    let old = state g.S.Store c.args.conn.now in
+    let new = state g.S.Store c.rows_shown.new.conn in
+    let editions = c.args.rules.now.editions in
+    let items = c.in_ok-rows.rows.items in
+    let same : c.deref.result.now ≡ items = search rules in
+    record {
+      value = λ clean. (
+          let known = (c.requires (omega (arith, c.rows_shown.ensures.read.crash.clean, clean))).2 in
+          let found = items_answer old new items (c.rows_shown.ensures.house clean) (c.in_ok-rows.ensures.rows clean) in
+          ok_then c.item_list.result c.item_list.ensures.value (λ _ e. e ∙ ap (λ rs. map (item_by rs) c.deref.result.now) known ∙ ap (map (item_by (reserves_in old.now.trees))) same ∙ found));
+      damaged = λ clean fits. (
+          let known = (c.requires (omega (arith, c.rows_shown.ensures.read.crash.clean, clean))).2 in
+          let hold = items_hold old new items (c.rows_shown.ensures.house clean) editions fits (c.in_ok-rows.ensures.rows clean) in
+          c.item_list.ensures.damaged (subst (λ rs. AllByRecursion (ItemHolds editions rs) c.deref.result.now) (sym known) (subst (AllByRecursion (ItemHolds editions (reserves_in old.now.trees))) (sym same) hold)));
+      read = search rules;
+    }

@@ -11,19 +11,19 @@ use Rattle.store_items.proofs.listing.list.Goals as goal
 pub returns-in_err-item_with_lot-clause-damaged : goal.returns-in_err-item_with_lot-clause-damaged
 unfolding tables_in
 returns-in_err-item_with_lot-clause-damaged g c clean fits free is =
-    c.in_err-item_with_lot.ensures.here clean (rw c.as_str.ensures (subst (λ (o : Option ℕ). IfSome o (λ n. n < 2 ^ 32)) (sym free) tt)) (search rules)
+    c.in_err-item_with_lot.ensures.damaged clean (rw c.as_str.ensures (subst (λ (o : Option ℕ). IfSome o (λ n. n < 2 ^ 32)) (sym free) tt)) (search rules)
 
 pub returns-then-is_some-clause-damaged : goal.returns-then-is_some-clause-damaged
 unfolding tables_in
 returns-then-is_some-clause-damaged g c clean fits free is =
     let there : is_some c.in_ok-item_with_lot.field-0 ≡ true = search rules in
-    some_there c.in_ok-item_with_lot.field-0 _ there (rw c.as_str.ensures at (c.in_ok-item_with_lot.ensures.found clean)) free
+    some_there c.in_ok-item_with_lot.field-0 _ there (rw c.as_str.ensures at (c.in_ok-item_with_lot.ensures.value clean)) free
 
 pub returns-clause-taken : goal.returns-clause-taken
 unfolding tables_in
 returns-clause-taken g c clean =
     let there : is_some c.in_ok-item_with_lot.field-0 ≡ false = search rules in
-    on_ok c.commit_list.result (none_there c.in_ok-item_with_lot.field-0 _ there (rw c.as_str.ensures at (c.in_ok-item_with_lot.ensures.found (omega (arith, c.commit_list.ensures.commit.crash.clean)))))
+    on_ok c.commit_list.result (none_there c.in_ok-item_with_lot.field-0 _ there (rw c.as_str.ensures at (c.in_ok-item_with_lot.ensures.value (omega (arith, c.commit_list.ensures.commit.crash.clean)))))
 
 pub returns-clause-commit : goal.returns-clause-commit
 returns-clause-commit g c =

@@ -11,7 +11,7 @@ check_unbid-requires g c clean = let rest = c.requires.rests clean in (rest.is_o
 
 pub returns-in_err-check_unbid-clause-damaged : goal.returns-in_err-check_unbid-clause-damaged
 returns-in_err-check_unbid-clause-damaged g c clean here fits =
-    let none = c.in_err-check_unbid.ensures.damaged clean here c.args.moment c.args.buyer c.args.price fits in
+    let none = c.in_err-check_unbid.ensures.damaged clean (record { row = here; moment = c.args.moment; buyer = c.args.buyer; price = c.args.price; purchase = fits }) in
     search (rules, none)
 
 pub returns-clause-commit : goal.returns-clause-commit

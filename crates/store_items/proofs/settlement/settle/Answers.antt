@@ -11,7 +11,7 @@ check_terms-requires g c clean = let rest = c.requires.rests clean in (rest.is_o
 
 pub returns-in_err-check_terms-clause-damaged : goal.returns-in_err-check_terms-clause-damaged
 returns-in_err-check_terms-clause-damaged g c clean here fits =
-    let none = c.in_err-check_terms.ensures.damaged clean here (fits.row, fits.row_there) in
+    let none = c.in_err-check_terms.ensures.damaged clean (record { row = here; there = (fits.row, fits.row_there) }) in
     search (rules, none)
 
 pub returns-clause-commit : goal.returns-clause-commit

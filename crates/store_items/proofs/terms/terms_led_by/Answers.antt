@@ -9,7 +9,7 @@ use Rattle.store_rows.specs.Rows.{reserves_in}
 use Rattle.store_rows.proofs.StateLemmas.{ok_then}
 use Rattle.store_items.specs.Standing.{TermsHold}
 use Rattle.store_items.proofs.TermMeaning.{terms_led_by_is, terms_led_by_text}
-use Rattle.store_items.proofs.TermFinds.{leader_test, terms_found, terms_held, terms_kept}
+use Rattle.store_items.proofs.TermFinds.{leader_test, terms_found, terms_kept}
 use Rattle.store_rows.proofs.ReservesServing.{serves}
 use Rattle.store_items.proofs.terms.terms_led_by.Goals as goal
 
@@ -19,33 +19,25 @@ rows_shown-requires-clause-serves g c = serves c.args.rules.now.reserves (state 
 pub rows_shown-requires-clause-plain : goal.rows_shown-requires-clause-plain
 rows_shown-requires-clause-plain g c = terms_led_by_is.2
 
-pub returns-clause-terms : goal.returns-clause-terms
-returns-clause-terms g c clean =
-    let known = (c.requires (omega (arith, c.rows_shown.ensures.read.crash.clean, clean))).2 in
-    let low : c.args.member < 2 ^ 32 = omega (arith, c.ranges.member) in
+pub returns-clause-finds : goal.returns-clause-finds
+returns-clause-finds g c =
+    let old = state g.S.Store c.args.conn.now in
+    let new = state g.S.Store c.rows_shown.new.conn in
+    let editions = c.args.rules.now.editions in
     let items = c.in_ok-rows.rows.items in
     let same : c.deref.result.now ≡ items = search rules in
-    let shown = rw c.params-to_sql.ensures at (c.in_ok-rows.ensures.rows clean) in
-    ok_then c.terms_list.result c.terms_list.ensures.value (λ _ e. e ∙ ap (λ rs. map (terms_by rs) c.deref.result.now) known ∙ ap (map (terms_by (reserves_in (state g.S.Store c.args.conn.now).now.trees))) same
-    ∙ terms_found terms_led_by_text (equals 13 ∷ []) terms_led_by_is (Int (pos c.args.member) ∷ []) (state g.S.Store c.args.conn.now) (state g.S.Store c.rows_shown.new.conn) items (c.rows_shown.ensures.house clean) shown (λ row. is_leader row.item.terms.leader c.args.member) (leader_test (reserves_in (state g.S.Store c.args.conn.now).now.trees) c.args.member low))
-
-pub returns-clause-damaged : goal.returns-clause-damaged
-returns-clause-damaged g c clean fits =
-    let known = (c.requires (omega (arith, c.rows_shown.ensures.read.crash.clean, clean))).2 in
     let low : c.args.member < 2 ^ 32 = omega (arith, c.ranges.member) in
-    let items = c.in_ok-rows.rows.items in
-    let same : c.deref.result.now ≡ items = search rules in
-    let shown = rw c.params-to_sql.ensures at (c.in_ok-rows.ensures.rows clean) in
-    c.terms_list.ensures.damaged (subst (λ rs. AllByRecursion (TermsHold c.args.rules.now.editions rs) c.deref.result.now) (sym known) (subst (AllByRecursion (TermsHold c.args.rules.now.editions (reserves_in (state g.S.Store c.args.conn.now).now.trees))) (sym same)
-    (terms_held terms_led_by_text (equals 13 ∷ []) terms_led_by_is (Int (pos c.args.member) ∷ []) (state g.S.Store c.args.conn.now) (state g.S.Store c.rows_shown.new.conn) items (c.rows_shown.ensures.house clean) shown c.args.rules.now.editions fits)))
-
-pub returns-clause-here : goal.returns-clause-here
-returns-clause-here g c clean fits =
-    let known = (c.requires (omega (arith, c.rows_shown.ensures.read.crash.clean, clean))).2 in
-    let low : c.args.member < 2 ^ 32 = omega (arith, c.ranges.member) in
-    let items = c.in_ok-rows.rows.items in
-    let same : c.deref.result.now ≡ items = search rules in
-    let shown = rw c.params-to_sql.ensures at (c.in_ok-rows.ensures.rows clean) in
-    let test = leader_test (reserves_in (state g.S.Store c.args.conn.now).now.trees) c.args.member low in
-    c.terms_list.ensures.damaged (subst (λ rs. AllByRecursion (TermsHold c.args.rules.now.editions rs) c.deref.result.now) (sym known) (subst (AllByRecursion (TermsHold c.args.rules.now.editions (reserves_in (state g.S.Store c.args.conn.now).now.trees))) (sym same)
-    (terms_kept terms_led_by_text (equals 13 ∷ []) terms_led_by_is (Int (pos c.args.member) ∷ []) (state g.S.Store c.args.conn.now) (state g.S.Store c.rows_shown.new.conn) items (c.rows_shown.ensures.house clean) shown (λ row. is_leader row.item.terms.leader c.args.member) test c.args.rules.now.editions fits)))
+    let test = leader_test (reserves_in old.now.trees) c.args.member low in
+    record {
+      value = λ clean. (
+          let known = (c.requires (omega (arith, c.rows_shown.ensures.read.crash.clean, clean))).2 in
+          let shown = rw c.params-to_sql.ensures at (c.in_ok-rows.ensures.rows clean) in
+          ok_then c.terms_list.result c.terms_list.ensures.value (λ _ e. e ∙ ap (λ rs. map (terms_by rs) c.deref.result.now) known ∙ ap (map (terms_by (reserves_in old.now.trees))) same
+          ∙ terms_found terms_led_by_text (equals 13 ∷ []) terms_led_by_is (Int (pos c.args.member) ∷ []) old new items (c.rows_shown.ensures.house clean) shown (λ row. is_leader row.item.terms.leader c.args.member) test));
+      damaged = λ clean fits. (
+          let known = (c.requires (omega (arith, c.rows_shown.ensures.read.crash.clean, clean))).2 in
+          let shown = rw c.params-to_sql.ensures at (c.in_ok-rows.ensures.rows clean) in
+          c.terms_list.ensures.damaged (subst (λ rs. AllByRecursion (TermsHold editions rs) c.deref.result.now) (sym known) (subst (AllByRecursion (TermsHold editions (reserves_in old.now.trees))) (sym same)
+          (terms_kept terms_led_by_text (equals 13 ∷ []) terms_led_by_is (Int (pos c.args.member) ∷ []) old new items (c.rows_shown.ensures.house clean) shown (λ row. is_leader row.item.terms.leader c.args.member) test editions fits))));
+      read = search rules;
+    }

@@ -8,7 +8,7 @@ use Rattle.store_rows.specs.Rows.{reserves_in}
 use Rattle.store_rows.proofs.StateLemmas.{ok_then}
 use Rattle.store_items.specs.Standing.{TermsHold}
 use Rattle.store_items.proofs.TermMeaning.{terms_of_seller_is, terms_of_seller_text}
-use Rattle.store_items.proofs.TermFinds.{seller_test, terms_found, terms_held, terms_kept}
+use Rattle.store_items.proofs.TermFinds.{seller_test, terms_found, terms_kept}
 use Rattle.store_rows.proofs.ReservesServing.{serves}
 use Rattle.store_items.proofs.terms.terms_of_seller.Goals as goal
 
@@ -18,33 +18,25 @@ rows_shown-requires-clause-serves g c = serves c.args.rules.now.reserves (state 
 pub rows_shown-requires-clause-plain : goal.rows_shown-requires-clause-plain
 rows_shown-requires-clause-plain g c = terms_of_seller_is.2
 
-pub returns-clause-terms : goal.returns-clause-terms
-returns-clause-terms g c clean =
-    let known = (c.requires (omega (arith, c.rows_shown.ensures.read.crash.clean, clean))).2 in
-    let low : c.args.seller < 2 ^ 32 = omega (arith, c.ranges.seller) in
+pub returns-clause-finds : goal.returns-clause-finds
+returns-clause-finds g c =
+    let old = state g.S.Store c.args.conn.now in
+    let new = state g.S.Store c.rows_shown.new.conn in
+    let editions = c.args.rules.now.editions in
     let items = c.in_ok-rows.rows.items in
     let same : c.deref.result.now ≡ items = search rules in
-    let shown = rw c.params-to_sql.ensures at (c.in_ok-rows.ensures.rows clean) in
-    ok_then c.terms_list.result c.terms_list.ensures.value (λ _ e. e ∙ ap (λ rs. map (terms_by rs) c.deref.result.now) known ∙ ap (map (terms_by (reserves_in (state g.S.Store c.args.conn.now).now.trees))) same
-    ∙ terms_found terms_of_seller_text (equals 2 ∷ []) terms_of_seller_is (Int (pos c.args.seller) ∷ []) (state g.S.Store c.args.conn.now) (state g.S.Store c.rows_shown.new.conn) items (c.rows_shown.ensures.house clean) shown (λ row. row.item.terms.seller == c.args.seller) (seller_test (reserves_in (state g.S.Store c.args.conn.now).now.trees) c.args.seller low))
-
-pub returns-clause-damaged : goal.returns-clause-damaged
-returns-clause-damaged g c clean fits =
-    let known = (c.requires (omega (arith, c.rows_shown.ensures.read.crash.clean, clean))).2 in
     let low : c.args.seller < 2 ^ 32 = omega (arith, c.ranges.seller) in
-    let items = c.in_ok-rows.rows.items in
-    let same : c.deref.result.now ≡ items = search rules in
-    let shown = rw c.params-to_sql.ensures at (c.in_ok-rows.ensures.rows clean) in
-    c.terms_list.ensures.damaged (subst (λ rs. AllByRecursion (TermsHold c.args.rules.now.editions rs) c.deref.result.now) (sym known) (subst (AllByRecursion (TermsHold c.args.rules.now.editions (reserves_in (state g.S.Store c.args.conn.now).now.trees))) (sym same)
-    (terms_held terms_of_seller_text (equals 2 ∷ []) terms_of_seller_is (Int (pos c.args.seller) ∷ []) (state g.S.Store c.args.conn.now) (state g.S.Store c.rows_shown.new.conn) items (c.rows_shown.ensures.house clean) shown c.args.rules.now.editions fits)))
-
-pub returns-clause-here : goal.returns-clause-here
-returns-clause-here g c clean fits =
-    let known = (c.requires (omega (arith, c.rows_shown.ensures.read.crash.clean, clean))).2 in
-    let low : c.args.seller < 2 ^ 32 = omega (arith, c.ranges.seller) in
-    let items = c.in_ok-rows.rows.items in
-    let same : c.deref.result.now ≡ items = search rules in
-    let shown = rw c.params-to_sql.ensures at (c.in_ok-rows.ensures.rows clean) in
-    let test = seller_test (reserves_in (state g.S.Store c.args.conn.now).now.trees) c.args.seller low in
-    c.terms_list.ensures.damaged (subst (λ rs. AllByRecursion (TermsHold c.args.rules.now.editions rs) c.deref.result.now) (sym known) (subst (AllByRecursion (TermsHold c.args.rules.now.editions (reserves_in (state g.S.Store c.args.conn.now).now.trees))) (sym same)
-    (terms_kept terms_of_seller_text (equals 2 ∷ []) terms_of_seller_is (Int (pos c.args.seller) ∷ []) (state g.S.Store c.args.conn.now) (state g.S.Store c.rows_shown.new.conn) items (c.rows_shown.ensures.house clean) shown (λ row. row.item.terms.seller == c.args.seller) test c.args.rules.now.editions fits)))
+    let test = seller_test (reserves_in old.now.trees) c.args.seller low in
+    record {
+      value = λ clean. (
+          let known = (c.requires (omega (arith, c.rows_shown.ensures.read.crash.clean, clean))).2 in
+          let shown = rw c.params-to_sql.ensures at (c.in_ok-rows.ensures.rows clean) in
+          ok_then c.terms_list.result c.terms_list.ensures.value (λ _ e. e ∙ ap (λ rs. map (terms_by rs) c.deref.result.now) known ∙ ap (map (terms_by (reserves_in old.now.trees))) same
+          ∙ terms_found terms_of_seller_text (equals 2 ∷ []) terms_of_seller_is (Int (pos c.args.seller) ∷ []) old new items (c.rows_shown.ensures.house clean) shown (λ row. row.item.terms.seller == c.args.seller) test));
+      damaged = λ clean fits. (
+          let known = (c.requires (omega (arith, c.rows_shown.ensures.read.crash.clean, clean))).2 in
+          let shown = rw c.params-to_sql.ensures at (c.in_ok-rows.ensures.rows clean) in
+          c.terms_list.ensures.damaged (subst (λ rs. AllByRecursion (TermsHold editions rs) c.deref.result.now) (sym known) (subst (AllByRecursion (TermsHold editions (reserves_in old.now.trees))) (sym same)
+          (terms_kept terms_of_seller_text (equals 2 ∷ []) terms_of_seller_is (Int (pos c.args.seller) ∷ []) old new items (c.rows_shown.ensures.house clean) shown (λ row. row.item.terms.seller == c.args.seller) test editions fits))));
+      read = search rules;
+    }

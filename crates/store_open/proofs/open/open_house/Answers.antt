@@ -3,7 +3,7 @@ use Rattle.std.proofs.lemmas.Result.{err_from_is_err_and}
 use Rattle.sqlite.specs.Effect.{Database}
 use Rattle.sqlite.specs.Held.{state}
 use Rattle.sqlite.specs.State.{HasCleanDisk}
-use Rattle.store_house.specs.Opening.{AreNumbered, AreReserved, AreSet, IsSetUp}
+use Rattle.store_house.specs.Opening.{IsReadable}
 use Rattle.store_house.proofs.OpenLemmas.{gives_back, leads_made, leads_on}
 use Rattle.store_open.proofs.ReadLemmas.{WasRead, was_read}
 use Rattle.store_open.proofs.open.open_house.Goals as goal
@@ -13,13 +13,13 @@ returns-in-Ok g c =
     let was = state g.S.Store c.in_ok-conn.conn in
     let is = state g.S.Store c.read_house.new.conn in
     let read = c.in-Ok.ensures in
-    let first : HasCleanDisk is → HasCleanDisk was = λ clean. omega (arith, c.read_house.ensures.read.crash.clean, clean) in
+    let first : HasCleanDisk is → HasCleanDisk was = λ clean. omega (arith, c.read_house.ensures.finds.read.crash.clean, clean) in
     let found : HasCleanDisk is → WasRead was is c.in-Ok.editions c.in-Ok.clock c.in-Ok.counts c.in-Ok.reserves = λ clean.
     was_read was is _ _ _ _ (c.in_ok-conn.ensures.house (first clean)) (c.in_ok-conn.ensures.rests (first clean))
-    (read.read.same clean) (read.settings clean) (read.editions clean) (read.counts clean) (read.reserves clean) in
+    (read.finds.read.same clean) (read.finds.value clean) in
     let made = c.in_ok-conn in
     let leads = leads_on g.S.Store c.args.conn made.conn c.read_house.new.conn (leads_made g.S.Store c.args.conn made.conn made.ensures.follows made.ensures.rests)
-    c.read_house.ensures.read.crash (λ clean. inl (read.read.same clean)) in
+    c.read_house.ensures.finds.read.crash (λ clean. inl (read.finds.read.same clean)) in
     record {
       rests = λ clean. (found clean).rests;
       editions = λ clean. (found clean).editions_are;
@@ -53,15 +53,15 @@ returns-in_err-conn-clause-damaged g c =
 pub returns-in-Err-clause-left : goal.returns-in-Err-clause-left
 returns-in-Err-clause-left g c =
     let made = c.in_ok-conn in
-    let read = c.read_house.ensures.read in
+    let read = c.read_house.ensures.finds.read in
     let left = c.into_store in
     gives_back g.S.Store c.args.conn c.read_house.new.conn left.result
-    (leads_on g.S.Store c.args.conn made.conn c.read_house.new.conn (leads_made g.S.Store c.args.conn made.conn made.ensures.follows made.ensures.rests) read.crash (λ clean. c.in-Err.ensures.read.err clean))
+    (leads_on g.S.Store c.args.conn made.conn c.read_house.new.conn (leads_made g.S.Store c.args.conn made.conn made.ensures.follows made.ensures.rests) read.crash (λ clean. c.in-Err.ensures.finds.read.err clean))
     left.ensures.undone left.ensures.quiet
 
 pub returns-in-Err-clause-damaged : goal.returns-in-Err-clause-damaged
 returns-in-Err-clause-damaged g c is clean sound =
     let second : HasCleanDisk (state g.S.Store c.read_house.new.conn) = omega (arith, c.into_store.ensures.quiet.clean, clean) in
-    let first : HasCleanDisk (state g.S.Store c.in_ok-conn.conn) = omega (arith, c.read_house.ensures.read.crash.clean, second) in
+    let first : HasCleanDisk (state g.S.Store c.in_ok-conn.conn) = omega (arith, c.read_house.ensures.finds.read.crash.clean, second) in
     let same = sym (c.in_ok-conn.ensures.same first) in
-    c.read_house.ensures.damaged second (subst IsSetUp same sound.set_up) (subst AreNumbered same sound.numbered) (subst AreReserved same sound.reserved) (subst AreSet same sound.set) (search rules)
+    c.read_house.ensures.finds.damaged second (subst IsReadable same sound.readable) (search rules)

@@ -36,7 +36,7 @@ returns-clause-ok g c clean =
     let adds = subst (λ (d : Database). AddsTables d (state g.S.Store c.add_tables.new.conn).now) begun (c.in_ok-add_tables.ensures.ok second) in
     let same = (c.in_ok-check_first.ensures.read.same third).0.now_is in
     on_ok_where c.set_version.result (c.set_version.ensures.ok clean)
-    (λ sets. upgrades (state g.S.Store c.args.conn.now).now (state g.S.Store c.add_tables.new.conn).now (state g.S.Store c.set_version.new.conn).now (c.requires.first start).1 adds (c.in_ok-check_first.ensures.report third)
+    (λ sets. upgrades (state g.S.Store c.args.conn.now).now (state g.S.Store c.add_tables.new.conn).now (state g.S.Store c.set_version.new.conn).now (c.requires.first start).1 adds (c.in_ok-check_first.ensures.value third)
     (subst (λ (d : Database). Rattle.store_rows.specs.House.SetsVersion 2 d (state g.S.Store c.set_version.new.conn).now) same sets))
 
 pub returns-clause-inside : goal.returns-clause-inside

@@ -15,7 +15,7 @@ returns-in-Ok g c =
     let last = state g.S.Store c.upgrade_read.new.conn in
     let read = c.in-Ok.ensures in
     let found : HasCleanDisk last → WasRead last last c.in-Ok.editions c.in-Ok.clock c.in-Ok.counts c.in-Ok.reserves = λ clean.
-    was_read last last _ _ _ _ ((read.rests clean).0, (read.upgraded clean).house) (read.rests clean).1 (unchanged last (read.rests clean).0) (read.settings clean) (read.editions clean) (read.counts clean) (read.reserves clean) in
+    was_read last last _ _ _ _ ((read.rests clean).0, (read.upgraded clean).house) (read.rests clean).1 (unchanged last (read.rests clean).0) (record { has_settings = read.settings clean; has_editions = read.editions clean; have_numbers = read.counts clean; has_reserves = read.reserves clean }) in
     record {
       rests = λ clean. (found clean).rests;
       editions = λ clean. (found clean).editions_are;

@@ -4,7 +4,7 @@ use Rattle.sqlite.specs.Held.{state}
 use Rattle.house_rows.specs.Fits.{FeedbackFits}
 use Rattle.store_rows.specs.Rows.{feedback_of}
 use Rattle.store_rows.proofs.Both.{ok_both}
-use Rattle.store_talk.proofs.FeedbackPages.{given_is, given_finite, given_either, no_stray_given, no_stray_taken, given_near, given_fit, strays_is, strays_finite}
+use Rattle.store_talk.proofs.FeedbackPages.{given_is, given_finite, given_either, no_stray_taken, given_near, strays_is, strays_finite}
 use Rattle.store_talk.proofs.feedback_pages.given_from.Goals as goal
 
 pub listed_rows-requires-clause-plain : goal.listed_rows-requires-clause-plain
@@ -19,25 +19,27 @@ listed_rows-requires-clause-strays_plain g c = strays_is.2
 pub listed_rows-requires-clause-strays_finite : goal.listed_rows-requires-clause-strays_finite
 listed_rows-requires-clause-strays_finite g c = strays_finite
 
-pub returns-clause-given : goal.returns-clause-given
-returns-clause-given g c clean =
+pub returns-clause-finds : goal.returns-clause-finds
+returns-clause-finds g c =
     let low : c.args.member < 2 ^ 32 = omega (arith, c.ranges.member) in
     let small : c.args.from < 2 ^ 32 = omega (arith, c.ranges.from) in
-    let first = rw (c.params-to_sql.ensures, c.params-to_sql-2.ensures) at (c.in_ok-rows.ensures.rows clean) in
-    let none = rw (c.params-to_sql-3.ensures, c.params-to_sql-4.ensures) at (c.in_ok-rows.ensures.no_stray clean) in
-    let same : c.deref.result.now ≡ c.in_ok-rows.rows.items = search rules in
-    ok_both c.all_of.result c.all_of.ensures.value c.all_of.ensures.fits (λ all e fits.
-    let report = e ∙ ap (map feedback_of) same in
-    report ∙ given_either c.args.member c.args.from low small (state g.S.Store c.args.conn.now) (state g.S.Store c.listed_rows.new.conn) (c.listed_rows.ensures.house clean) c.in_ok-rows.rows.items none first (subst (AllByRecursion FeedbackFits) report fits))
-
-pub returns-clause-damaged : goal.returns-clause-damaged
-returns-clause-damaged g c clean fits =
-    let low : c.args.member < 2 ^ 32 = omega (arith, c.ranges.member) in
-    let small : c.args.from < 2 ^ 32 = omega (arith, c.ranges.from) in
-    let first = rw (c.params-to_sql.ensures, c.params-to_sql-2.ensures) at (c.in_ok-rows.ensures.rows clean) in
-    let same : c.deref.result.now ≡ c.in_ok-rows.rows.items = search rules in
-    let fit = given_fit c.args.member c.args.from low small (state g.S.Store c.args.conn.now) (state g.S.Store c.listed_rows.new.conn) (c.listed_rows.ensures.house clean) c.in_ok-rows.rows.items first fits in
-    c.all_of.ensures.damaged (subst (AllByRecursion FeedbackFits) (sym (ap (map feedback_of) same)) fit)
+    let old = state g.S.Store c.args.conn.now in
+    let new = state g.S.Store c.listed_rows.new.conn in
+    let rows = c.in_ok-rows.rows.items in
+    let same : c.deref.result.now ≡ rows = search rules in
+    record {
+      value = λ clean. (
+          let first = rw (c.params-to_sql.ensures, c.params-to_sql-2.ensures) at (c.in_ok-rows.ensures.rows clean) in
+          let none = rw (c.params-to_sql-3.ensures, c.params-to_sql-4.ensures) at (c.in_ok-rows.ensures.no_stray clean) in
+          ok_both c.all_of.result c.all_of.ensures.value c.all_of.ensures.fits (λ all e fits.
+          let report = e ∙ ap (map feedback_of) same in
+          report ∙ given_either c.args.member c.args.from low small old new (c.listed_rows.ensures.house clean) rows none first (subst (AllByRecursion FeedbackFits) report fits)));
+      damaged = λ clean fits. (
+          let first = rw (c.params-to_sql.ensures, c.params-to_sql-2.ensures) at (c.in_ok-rows.ensures.rows clean) in
+          let fit = given_near c.args.member c.args.from low small old new (c.listed_rows.ensures.house clean) rows first fits.near fits.far in
+          c.all_of.ensures.damaged (subst (AllByRecursion FeedbackFits) (sym (ap (map feedback_of) same)) fit));
+      read = search rules;
+    }
 
 pub returns-clause-spoiled : goal.returns-clause-spoiled
 returns-clause-spoiled g c clean is =
@@ -52,25 +54,15 @@ returns-clause-spoiled g c clean is =
 pub returns-in_err-rows-clause-spoiled : goal.returns-in_err-rows-clause-spoiled
 returns-in_err-rows-clause-spoiled g c clean is = inr (rw (c.params-to_sql.ensures, c.params-to_sql-2.ensures, c.params-to_sql-3.ensures, c.params-to_sql-4.ensures) at (c.listed_rows.ensures.damaged clean (search rules)))
 
-pub returns-in_err-rows-clause-damaged : goal.returns-in_err-rows-clause-damaged
-returns-in_err-rows-clause-damaged g c clean fits is =
+pub returns-in_err-rows-clause-finds : goal.returns-in_err-rows-clause-finds
+returns-in_err-rows-clause-finds g c =
     let low : c.args.member < 2 ^ 32 = omega (arith, c.ranges.member) in
     let small : c.args.from < 2 ^ 32 = omega (arith, c.ranges.from) in
-    let stray = rw (c.params-to_sql.ensures, c.params-to_sql-2.ensures, c.params-to_sql-3.ensures, c.params-to_sql-4.ensures) at (c.listed_rows.ensures.damaged clean (search rules)) in
-    no_stray_given c.args.member c.args.from low small (state g.S.Store c.args.conn.now) (state g.S.Store c.listed_rows.new.conn) (c.listed_rows.ensures.house clean) (state g.S.Store c.listed_rows.new.conn) stray.some fits
-
-pub returns-clause-reached : goal.returns-clause-reached
-returns-clause-reached g c clean fits far =
-    let low : c.args.member < 2 ^ 32 = omega (arith, c.ranges.member) in
-    let small : c.args.from < 2 ^ 32 = omega (arith, c.ranges.from) in
-    let first = rw (c.params-to_sql.ensures, c.params-to_sql-2.ensures) at (c.in_ok-rows.ensures.rows clean) in
-    let same : c.deref.result.now ≡ c.in_ok-rows.rows.items = search rules in
-    let fit = given_near c.args.member c.args.from low small (state g.S.Store c.args.conn.now) (state g.S.Store c.listed_rows.new.conn) (c.listed_rows.ensures.house clean) c.in_ok-rows.rows.items first fits far in
-    c.all_of.ensures.damaged (subst (AllByRecursion FeedbackFits) (sym (ap (map feedback_of) same)) fit)
-
-pub returns-in_err-rows-clause-reached : goal.returns-in_err-rows-clause-reached
-returns-in_err-rows-clause-reached g c clean fits far is =
-    let low : c.args.member < 2 ^ 32 = omega (arith, c.ranges.member) in
-    let small : c.args.from < 2 ^ 32 = omega (arith, c.ranges.from) in
-    let stray = rw (c.params-to_sql.ensures, c.params-to_sql-2.ensures, c.params-to_sql-3.ensures, c.params-to_sql-4.ensures) at (c.listed_rows.ensures.damaged clean (search rules)) in
-    no_stray_taken c.args.member c.args.from low small (state g.S.Store c.args.conn.now) (state g.S.Store c.listed_rows.new.conn) (c.listed_rows.ensures.house clean) (state g.S.Store c.listed_rows.new.conn) stray.some far
+    let new = state g.S.Store c.listed_rows.new.conn in
+    record {
+      value = search rules;
+      damaged = λ clean fits is. (
+          let stray = rw (c.params-to_sql.ensures, c.params-to_sql-2.ensures, c.params-to_sql-3.ensures, c.params-to_sql-4.ensures) at (c.listed_rows.ensures.damaged clean (search rules)) in
+          no_stray_taken c.args.member c.args.from low small (state g.S.Store c.args.conn.now) new (c.listed_rows.ensures.house clean) new stray.some fits.far);
+      read = search rules;
+    }

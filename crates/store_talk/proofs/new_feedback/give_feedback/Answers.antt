@@ -11,19 +11,19 @@ use Rattle.store_talk.proofs.new_feedback.give_feedback.Goals as goal
 
 pub returns-in_err-given-clause-damaged : goal.returns-in_err-given-clause-damaged
 returns-in_err-given-clause-damaged g c clean fit moment free is =
-    c.in_err-given.ensures.here clean (feedback_where (state g.S.Store c.args.conn.now).now.trees (λ f. f.from == c.args.from) fit) (search rules)
+    c.in_err-given.ensures.damaged clean (feedback_where (state g.S.Store c.args.conn.now).now.trees (λ f. f.from == c.args.from) fit) (search rules)
 
 pub returns-then-given-clause-damaged : goal.returns-then-given-clause-damaged
 unfolding tables_in
 returns-then-given-clause-damaged g c clean fit moment free is =
-    true≢false (sym c.if-given.true ∙ c.in_ok-given.ensures.found clean ∙ free)
+    true≢false (sym c.if-given.true ∙ (c.in_ok-given.ensures.value clean).found ∙ free)
 
 pub returns-clause-taken : goal.returns-clause-taken
 unfolding tables_in
-returns-clause-taken g c clean = on_ok c.commit_feedback.result (sym (c.in_ok-given.ensures.found (omega (arith, c.commit_feedback.ensures.commit.crash.clean))) ∙ c.if-given.false)
+returns-clause-taken g c clean = on_ok c.commit_feedback.result (sym (c.in_ok-given.ensures.value (omega (arith, c.commit_feedback.ensures.commit.crash.clean))).found ∙ c.if-given.false)
 
 pub returns-clause-key : goal.returns-clause-key
-returns-clause-key g c clean = on_ok c.commit_feedback.result (sym (c.in_ok-given.ensures.key (omega (arith, c.commit_feedback.ensures.commit.crash.clean))) ∙ c.if-given.false)
+returns-clause-key g c clean = on_ok c.commit_feedback.result (sym (c.in_ok-given.ensures.value (omega (arith, c.commit_feedback.ensures.commit.crash.clean))).key ∙ c.if-given.false)
 
 pub returns-clause-commit : goal.returns-clause-commit
 returns-clause-commit g c =

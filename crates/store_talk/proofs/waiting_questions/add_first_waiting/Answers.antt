@@ -1,4 +1,4 @@
-use Rattle.std.proofs.Common.{◌++◌, ◌∙◌, ap, arith, subst, sym, take}
+use Rattle.std.proofs.Common.{◌++◌, ◌∙◌, ap, arith, subst, sym, take, rules}
 use Rattle.std.specs.List.{AllByRecursion}
 use Rattle.house_rows.specs.Fits.{QuestionFits}
 use Rattle.house_rows.specs.Limits.{most_shown}
@@ -7,10 +7,14 @@ use Rattle.list_rows.proofs.Order.{every_append}
 use Rattle.store_rows.proofs.Tested.{all-take}
 use Rattle.store_talk.proofs.waiting_questions.add_first_waiting.Goals as goal
 
-pub returns-in-Ok-clause-asked : goal.returns-in-Ok-clause-asked
-returns-in-Ok-clause-asked g c clean =
-    c.truncate.ensures.items ∙ ap (take most_shown) (c.in-Ok.ensures.items ∙ ap (λ l. c.args.asked.now.items ++ l) (c.in_ok-more.ensures.asked clean))
-    ∙ front_after most_shown most_shown c.args.asked.now.items _ (omega arith)
+pub returns-in-Ok-clause-finds : goal.returns-in-Ok-clause-finds
+returns-in-Ok-clause-finds g c = record {
+  value = λ clean.
+      c.truncate.ensures.items ∙ ap (take most_shown) (c.in-Ok.ensures.items ∙ ap (λ l. c.args.asked.now.items ++ l) (c.in_ok-more.ensures.finds.value clean))
+      ∙ front_after most_shown most_shown c.args.asked.now.items _ (omega arith);
+  damaged = search rules;
+  read = search rules;
+}
 
 pub returns-in-Ok-clause-fits : goal.returns-in-Ok-clause-fits
 returns-in-Ok-clause-fits g c old =

@@ -2,14 +2,11 @@ use Rattle.std.proofs.Common.{◌≡◌, ◌∙◌, ap, flat_map, rules, subst, 
 use Rattle.std.specs.List.{AllByRecursion}
 use Rattle.sqlite.specs.Effect.{Database}
 use Rattle.sqlite.specs.Held.{state}
-use Rattle.house_rows.specs.Fits.{QuestionFits}
 use Rattle.house_rows.specs.declared.item.Terms.{Terms}
 use Rattle.house_rows.specs.declared.talk.Question.{Question}
-use Rattle.store_rows.specs.Rows.{questions_in}
 use Rattle.store_rows.proofs.StateLemmas.{ok_then}
 use Rattle.store_talk.specs.Waiting.{WaitingFit, waiting_in}
 use Rattle.store_items.specs.ConsistentRows.{ItemIsConsistent}
-use Rattle.store_rows.proofs.Sound.{questions_fit, rows_fit}
 use Rattle.store_talk.proofs.WaitingStanding.{waiting_are_consistent}
 use Rattle.store_rows.proofs.Steps.{clean_before}
 use Rattle.store_talk.proofs.WaitingItems.{waiting_fit_at, waiting_found}
@@ -20,52 +17,42 @@ pub waiting_on_each-requires : goal.waiting_on_each-requires
 waiting_on_each-requires g c =
     let old = state g.S.Store c.args.conn.now in
     let mid = state g.S.Store c.terms_of_seller.new.conn in
-    serves c.args.rules.now.reserves mid (serves_still c.args.rules.now.reserves old mid c.terms_of_seller.ensures.read.crash c.in_ok-own.ensures.read.same c.requires)
+    serves c.args.rules.now.reserves mid (serves_still c.args.rules.now.reserves old mid c.terms_of_seller.ensures.finds.read.crash c.in_ok-own.ensures.finds.read.same c.requires)
 
-pub returns-in_err-own-clause-damaged : goal.returns-in_err-own-clause-damaged
-returns-in_err-own-clause-damaged g c clean sound is = c.in_err-own.ensures.damaged clean (rows_fit (state g.S.Store c.args.conn.now).now.trees c.args.rules.now.editions sound) (search rules)
+pub returns-in_err-own-clause-finds : goal.returns-in_err-own-clause-finds
+returns-in_err-own-clause-finds g c = record {
+  value = search rules;
+  damaged = λ clean fits is. c.in_err-own.ensures.finds.damaged clean fits.items (search rules);
+  read = search rules;
+}
 
-pub returns-clause-value : goal.returns-clause-value
-returns-clause-value g c clean =
+pub returns-clause-finds : goal.returns-clause-finds
+returns-clause-finds g c =
+    let editions = c.args.rules.now.editions in
+    let member = c.args.member in
     let old = state g.S.Store c.args.conn.now in
     let mid = state g.S.Store c.terms_of_seller.new.conn in
     let new = state g.S.Store c.waiting_on_each.new.conn in
-    let before = clean_before mid new c.waiting_on_each.ensures.read.crash clean in
-    let first = c.in_ok-own.ensures.read.same before in
-    let house = (c.requires (clean_before old mid c.terms_of_seller.ensures.read.crash before)).1 in
     let own = c.in_ok-own.own.items in
     let same : c.deref.result.now ≡ own = search rules in
-    let found = waiting_found old.now c.args.member own house (c.in_ok-own.ensures.terms before) c.in_ok-own.ensures.fits in
-    ok_then c.waiting_on_each.result (c.waiting_on_each.ensures.asked clean) (λ asked e.
-    e ∙ ap (flat_map (λ (t : Terms). waiting_in mid.now.trees t.item)) same ∙ ap (λ (db : Database). flat_map (λ (t : Terms). waiting_in db.trees t.item) own) first.0.now_is ∙ found)
-
-pub returns-clause-damaged : goal.returns-clause-damaged
-returns-clause-damaged g c clean sound =
-    let old = state g.S.Store c.args.conn.now in
-    let mid = state g.S.Store c.terms_of_seller.new.conn in
-    let before = clean_before mid (state g.S.Store c.waiting_on_each.new.conn) c.waiting_on_each.ensures.read.crash clean in
-    c.waiting_on_each.ensures.damaged clean (subst (λ (db : Database). AllByRecursion QuestionFits (questions_in db.trees)) (sym (c.in_ok-own.ensures.read.same before).0.now_is) (questions_fit old.now.trees sound.sound))
-
-pub returns-clause-is_consistent : goal.returns-clause-is_consistent
-returns-clause-is_consistent g c clean =
-    let old = state g.S.Store c.args.conn.now in
-    let before = clean_before (state g.S.Store c.terms_of_seller.new.conn) (state g.S.Store c.waiting_on_each.new.conn) c.waiting_on_each.ensures.read.crash clean in
-    let P = λ (q : Question). ItemIsConsistent c.args.rules.now.editions old.now.trees q.item in
-    let stand = waiting_are_consistent c.args.rules.now.editions old.now.trees c.args.member c.in_ok-own.own.items (c.in_ok-own.ensures.terms before) c.in_ok-own.ensures.is_consistent in
-    ok_then c.waiting_on_each.result (returns-clause-value g c clean) (λ asked e. subst (AllByRecursion P) (sym e) stand)
-
-pub returns-in_err-own-clause-here : goal.returns-in_err-own-clause-here
-returns-in_err-own-clause-here g c clean items asked is = c.in_err-own.ensures.here clean items (search rules)
-
-pub returns-clause-here : goal.returns-clause-here
-returns-clause-here g c clean items asked =
-    let old = state g.S.Store c.args.conn.now in
-    let mid = state g.S.Store c.terms_of_seller.new.conn in
-    let before = clean_before mid (state g.S.Store c.waiting_on_each.new.conn) c.waiting_on_each.ensures.read.crash clean in
-    let house = (c.requires (clean_before old mid c.terms_of_seller.ensures.read.crash before)).1 in
-    let own = c.in_ok-own.own.items in
-    let same : c.deref.result.now ≡ own = search rules in
-    let here = waiting_fit_at old.now c.args.member own house (c.in_ok-own.ensures.terms before) c.in_ok-own.ensures.fits asked in
-    c.waiting_on_each.ensures.here clean
-    (subst (λ (db : Database). AllByRecursion (λ (t : Terms). WaitingFit db.trees t.item) c.deref.result.now) (sym (c.in_ok-own.ensures.read.same before).0.now_is)
-    (subst (AllByRecursion (λ (t : Terms). WaitingFit old.now.trees t.item)) (sym same) here))
+    let P = λ (q : Question). ItemIsConsistent editions old.now.trees q.item in
+    let F = λ (db : Database). flat_map (λ (t : Terms). waiting_in db.trees t.item) in
+    record {
+      value = λ clean. (
+          let before = clean_before mid new c.waiting_on_each.ensures.finds.read.crash clean in
+          let house = (c.requires (clean_before old mid c.terms_of_seller.ensures.finds.read.crash before)).1 in
+          let first = c.in_ok-own.ensures.finds.read.same before in
+          let found = waiting_found old.now member own house (c.in_ok-own.ensures.finds.value before) c.in_ok-own.ensures.fits in
+          let stand = waiting_are_consistent editions old.now.trees member own (c.in_ok-own.ensures.finds.value before) c.in_ok-own.ensures.is_consistent in
+          ok_then c.waiting_on_each.result (c.waiting_on_each.ensures.finds.value clean) (λ asked e.
+          let are = e ∙ ap (F mid.now) same ∙ ap (λ (db : Database). F db own) first.0.now_is ∙ found in
+          record { are = are; is_consistent = subst (AllByRecursion P) (sym are) stand }));
+      damaged = λ clean fits. (
+          let before = clean_before mid new c.waiting_on_each.ensures.finds.read.crash clean in
+          let house = (c.requires (clean_before old mid c.terms_of_seller.ensures.finds.read.crash before)).1 in
+          let here = waiting_fit_at old.now member own house (c.in_ok-own.ensures.finds.value before) c.in_ok-own.ensures.fits fits.questions in
+          c.waiting_on_each.ensures.finds.damaged clean
+          (subst (λ (db : Database). AllByRecursion (λ (t : Terms). WaitingFit db.trees t.item) c.deref.result.now) (sym (c.in_ok-own.ensures.finds.read.same before).0.now_is)
+          (subst (AllByRecursion (λ (t : Terms). WaitingFit old.now.trees t.item)) (sym same) here)));
+      read = search rules;
+    }

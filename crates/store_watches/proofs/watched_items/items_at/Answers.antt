@@ -20,16 +20,18 @@ loop-number-preserved g c =
     let mid = state g.S.Store c.loop-number.conn in
     let new = state g.S.Store c.add_item.new.conn in
     let held = c.loop-number.invariant in
-    let crash = c.add_item.ensures.read.crash in
+    let crash = c.add_item.ensures.finds.read.crash in
     record {
       survives = both_survive old mid new held.survives crash;
-      same = λ clean. both_same old mid new (held.same (clean_before mid new crash clean)) (c.in_ok-add_item.ensures.read.same clean);
-      mode = λ out. c.add_item.ensures.read.mode (held.mode out);
+      same = λ clean. both_same old mid new (held.same (clean_before mid new crash clean)) (c.in_ok-add_item.ensures.finds.read.same clean);
+      mode = λ out. c.add_item.ensures.finds.read.mode (held.mode out);
       found = λ clean. (let before = clean_before mid new crash clean in
           found_more (item_found old.now.trees) c.args.numbers.now c.loop-number.number-index 0 c.loop-number.items.items c.add_item.new.items.items _ c.loop-number-test.true (held.found before)
-          (subst (λ (db : Database). c.add_item.new.items.items ≡ c.loop-number.items.items ++ item_found db.trees (get_or c.args.numbers.now c.loop-number.number-index 0)) (held.same before).0.now_is (c.in_ok-add_item.ensures.items clean)));
-      fits = c.in_ok-add_item.ensures.fits held.fits;
-      is_consistent = c.in_ok-add_item.ensures.is_consistent held.is_consistent;
+          (subst (λ (db : Database). c.add_item.new.items.items ≡ c.loop-number.items.items ++ item_found db.trees (get_or c.args.numbers.now c.loop-number.number-index 0)) (held.same before).0.now_is (c.in_ok-add_item.ensures.finds.value clean)));
+      fits = record {
+        fits = c.in_ok-add_item.ensures.fits held.fits.fits;
+        is_consistent = c.in_ok-add_item.ensures.is_consistent held.fits.is_consistent;
+      };
     }
 
 pub returns-clause-small : goal.returns-clause-small
@@ -38,11 +40,16 @@ returns-clause-small g c = all_small c.args.numbers.now (λ i. omega (arith, c.t
 pub returns-in_err-add_item-clause-small : goal.returns-in_err-add_item-clause-small
 returns-in_err-add_item-clause-small g c = all_small c.args.numbers.now (λ i. omega (arith, c.type_inv.numbers i))
 
-pub returns-in_err-add_item-clause-here : goal.returns-in_err-add_item-clause-here
-returns-in_err-add_item-clause-here g c clean fits is =
+pub returns-in_err-add_item-clause-finds : goal.returns-in_err-add_item-clause-finds
+returns-in_err-add_item-clause-finds g c =
     let old = state g.S.Store c.args.conn.now in
     let mid = state g.S.Store c.loop-number.conn in
-    let before = clean_before mid (state g.S.Store c.add_item.new.conn) c.add_item.ensures.read.crash clean in
-    let number = get_or c.args.numbers.now c.loop-number.number-index 0 in
-    let here = row_has (RowFitsAt c.args.rules.now.editions old.now.trees) c.args.numbers.now c.loop-number.number-index 0 c.loop-number-test.true fits in
-    c.in_err-add_item.ensures.here clean (subst (λ (db : Database). RowFitsAt c.args.rules.now.editions db.trees number) (sym (c.loop-number.invariant.same before).0.now_is) here) (search rules)
+    record {
+      value = search rules;
+      damaged = λ clean fits is. (
+          let before = clean_before mid (state g.S.Store c.add_item.new.conn) c.add_item.ensures.finds.read.crash clean in
+          let number = get_or c.args.numbers.now c.loop-number.number-index 0 in
+          let here = row_has (RowFitsAt c.args.rules.now.editions old.now.trees) c.args.numbers.now c.loop-number.number-index 0 c.loop-number-test.true fits in
+          c.in_err-add_item.ensures.finds.damaged clean (subst (λ (db : Database). RowFitsAt c.args.rules.now.editions db.trees number) (sym (c.loop-number.invariant.same before).0.now_is) here) (search rules));
+      read = search rules;
+    }

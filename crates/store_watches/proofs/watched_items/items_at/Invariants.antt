@@ -1,10 +1,7 @@
 use Rattle.std.proofs.Common.{◌≡◌, ◌++◌, drop, false, flat_map}
-use Rattle.std.specs.List.{AllByRecursion}
 use Rattle.sqlite.specs.State.{HasCleanDisk, IsUnchanged, Survives}
 use Rattle.sqlite.specs.Held.{state}
-use Rattle.house_rows.specs.Fits.{ItemFits}
-use Rattle.house_rows.specs.Keeping.{IsConsistentBy}
-use Rattle.store_watches.specs.Watched.{item_found}
+use Rattle.store_watches.specs.Watched.{AreItems, item_found}
 use Rattle.store_watches.proofs.watched_items.items_at.Given as goal
 
 abbrev pub invariant-loop-number : goal.invariant-loop-number
@@ -16,6 +13,5 @@ invariant-loop-number g l =
       same : HasCleanDisk now → IsUnchanged old now;
       mode : l.fn.conn.in_transaction ≡ false → l.conn.in_transaction ≡ false;
       found : HasCleanDisk now → l.items.items ++ flat_map (item_found old.now.trees) (drop l.number-index l.numbers) ≡ flat_map (item_found old.now.trees) l.numbers;
-      fits : AllByRecursion ItemFits l.items.items;
-      is_consistent : AllByRecursion (λ it. IsConsistentBy l.rules.editions it.terms) l.items.items;
+      fits : AreItems l.rules.editions l.items.items;
     }

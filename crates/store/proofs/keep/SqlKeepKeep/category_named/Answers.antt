@@ -11,4 +11,4 @@ unfolding tables_in
 returns-in-Err-clause-damaged g c = rw (← c.self.view_is)
     (λ honest fits. not_reported _ _ _ c.reported_fault.ensures.fault c.reported_fault.ensures.store (λ is.
     let clean : HasCleanDisk (state g.S.Store c.category_named.new.conn) = omega (arith, c.reported_fault.ensures.crash.clean, honest) in
-    c.in-Err.ensures.here clean fits (ap Err is)))
+    c.in-Err.ensures.finds.damaged clean fits (ap Err is)))

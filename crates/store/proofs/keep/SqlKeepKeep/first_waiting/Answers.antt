@@ -1,17 +1,11 @@
-use Rattle.std.proofs.Common.{ap, arith, ◌≡◌, rules, subst, sym, ℕ, not}
-use Rattle.std.specs.Prelude.{Err, ◌==◌, ◌&&◌, is_some}
+use Rattle.std.proofs.Common.{ap, arith, ◌≡◌, rules, subst, sym, ℕ}
+use Rattle.std.specs.Prelude.{Err}
 use Rattle.sqlite.specs.Held.{state}
 use Rattle.sqlite.specs.State.{HasCleanDisk}
 use Rattle.house_rows.specs.declared.talk.Question.{Question}
-use Rattle.house_rows.specs.Fits.{QuestionFits}
-use Rattle.house_rows.specs.Found.{row_at, sells}
-use Rattle.house_rows.specs.Keeping.{FitsBy}
-use Rattle.house_rows.specs.Taken.{FirstFit, FitWhere}
-use Rattle.house_rows.specs.Tables.{ItemRow}
-use Rattle.store_rows.specs.ItemRows.{items_in}
-use Rattle.store_rows.specs.Rows.{questions_in}
-use Rattle.store_rows.specs.Tables.{tables_in}
 use Rattle.store_talk.proofs.WaitingItems.{first_stored_waiting}
+use Rattle.store_talk.specs.Waiting.{FirstWaitingFit}
+use Rattle.store_talk.proofs.Sound.{first_waiting_sound}
 use Rattle.store.proofs.Known.{each_is_consistent, known_serves, known_sound, known_where, not_reported, report_sound, works}
 use Rattle.store.proofs.keep.SqlKeepKeep.first_waiting.Goals as goal
 
@@ -22,21 +16,20 @@ pub returns-in-Err-clause-faults : goal.returns-in-Err-clause-faults
 returns-in-Err-clause-faults g c = rw (← c.self.view_is)
     (report_sound _ _ _ _ _ c.reported_fault.ensures.fault c.reported_fault.ensures.store (λ honest sound is.
     let clean : HasCleanDisk (state g.S.Store c.first_waiting.new.conn) = omega (arith, c.reported_fault.ensures.crash.clean, honest) in
-    let before : HasCleanDisk (state g.S.Store c.self.inside.conn) = omega (arith, c.in-Err.ensures.read.crash.clean, clean) in
-    c.in-Err.ensures.damaged clean (known_sound _ _ _ _ _ (c.self.invariant.known (works _ _ c.self.view_is c.in_ok-serves.ensures.ok) before) sound) (ap Err is)))
+    let before : HasCleanDisk (state g.S.Store c.self.inside.conn) = omega (arith, c.in-Err.ensures.finds.read.crash.clean, clean) in
+    c.in-Err.ensures.finds.damaged clean (first_waiting_sound _ _ (known_sound _ _ _ _ _ (c.self.invariant.known (works _ _ c.self.view_is c.in_ok-serves.ensures.ok) before) sound) _) (ap Err is)))
 
 pub returns-in-Ok-first_waiting-clause-is_consistent : goal.returns-in-Ok-first_waiting-clause-is_consistent
 returns-in-Ok-first_waiting-clause-is_consistent g c = λ honest.
-    let before : HasCleanDisk (state g.S.Store c.self.inside.conn) = omega (arith, c.in-Ok-first_waiting.ensures.read.crash.clean, honest) in
-    rw (← c.self.view_is) (each_is_consistent _ _ _ _ _ (c.self.invariant.known (works _ _ c.self.view_is c.in_ok-serves.ensures.ok) before) (λ (q : Question). q.item) _ (c.in-Ok-first_waiting.ensures.is_consistent honest))
+    let before : HasCleanDisk (state g.S.Store c.self.inside.conn) = omega (arith, c.in-Ok-first_waiting.ensures.finds.read.crash.clean, honest) in
+    rw (← c.self.view_is) (each_is_consistent _ _ _ _ _ (c.self.invariant.known (works _ _ c.self.view_is c.in_ok-serves.ensures.ok) before) (λ (q : Question). q.item) _ (c.in-Ok-first_waiting.ensures.finds.value honest).is_consistent)
 
 pub returns-in-Err-clause-damaged : goal.returns-in-Err-clause-damaged
 returns-in-Err-clause-damaged g c = rw (← c.self.view_is)
     (λ honest items asked. not_reported _ _ _ c.reported_fault.ensures.fault c.reported_fault.ensures.store (λ is.
     let clean : HasCleanDisk (state g.S.Store c.first_waiting.new.conn) = omega (arith, c.reported_fault.ensures.crash.clean, honest) in
-    let before : HasCleanDisk (state g.S.Store c.self.inside.conn) = omega (arith, c.in-Err.ensures.read.crash.clean, clean) in
+    let before : HasCleanDisk (state g.S.Store c.self.inside.conn) = omega (arith, c.in-Err.ensures.finds.read.crash.clean, clean) in
     let same : c.in-Ok.member ≡ c.args.member = search rules in
     let db = (state g.S.Store c.self.inside.conn).now.trees in
-    let sold = λ (member : ℕ). FitWhere (λ (row : ItemRow). row.item.terms.seller == member) (FitsBy c.self.inside.rules.editions) (items_in db) in
-    let waits = λ (member : ℕ). FirstFit (λ (q : Question). not (is_some q.answer) && sells (row_at (tables_in db) q.item) member) (λ (q : Question). q.item) QuestionFits (questions_in db) in
-    c.in-Err.ensures.reached clean (subst sold (sym same) (known_where _ _ _ _ _ (c.self.invariant.known (works _ _ c.self.view_is c.in_ok-serves.ensures.ok) before) _ items)) (subst waits (sym same) (first_stored_waiting db c.args.member asked)) (ap Err is)))
+    let takes = λ (member : ℕ). FirstWaitingFit c.self.inside.rules.editions member db in
+    c.in-Err.ensures.finds.damaged clean (subst takes (sym same) (record { items = known_where _ _ _ _ _ (c.self.invariant.known (works _ _ c.self.view_is c.in_ok-serves.ensures.ok) before) _ items; questions = first_stored_waiting db c.args.member asked })) (ap Err is)))

@@ -1,11 +1,13 @@
 use Rattle.std.proofs.Common.{ap, arith, ◌≡◌, rules, subst, sym, ℕ, Option, true, false}
-use Rattle.std.specs.Prelude.{Err, IfSome}
+use Rattle.std.specs.Prelude.{◌==◌, ◌&&◌, Err, IfSome}
 use Rattle.sqlite.specs.Held.{state}
 use Rattle.sqlite.specs.State.{HasCleanDisk}
 use Rattle.house_rows.specs.Fits.{IsItem}
+use Rattle.house_rows.specs.Tables.{ItemRow}
+use Rattle.house_rows.specs.Text.{same_text}
 use Rattle.store_rows.specs.Tables.{tables_in}
-use Rattle.store.proofs.Known.{not_reported}
-use Rattle.store.proofs.Sound.{number_low}
+use Rattle.store.proofs.Known.{not_reported, report_sound}
+use Rattle.store.proofs.Sound.{number_low, sound_number}
 use Rattle.store.proofs.keep.SqlKeepKeep.item_of.Goals as goal
 
 pub returns-then-not-is_item_number-clause-damaged : goal.returns-then-not-is_item_number-clause-damaged
@@ -14,14 +16,25 @@ returns-then-not-is_item_number-clause-damaged g c = rw (← c.self.view_is)
     (λ honest fits is.
     let seller : c.in-Ok.seller ≡ c.args.seller = search rules in
     let stored = rw (← seller) at fits in
-    let no : false ≡ true = c.if-not-is_item_number.ensures.whole (subst (λ (o : Option ℕ). IfSome o IsItem) (sym (c.in-Ok-item_with_lot.ensures.found honest)) stored) in
+    let no : false ≡ true = c.if-not-is_item_number.ensures.whole (subst (λ (o : Option ℕ). IfSome o IsItem) (sym (c.in-Ok-item_with_lot.ensures.value honest)) stored) in
     absurd cc)
+
+pub returns-then-not-is_item_number-clause-faults : goal.returns-then-not-is_item_number-clause-faults
+unfolding tables_in
+returns-then-not-is_item_number-clause-faults g c = rw (← c.self.view_is) (record {
+  store = search rules;
+  damaged = λ honest sound is.
+      let named = λ (row : ItemRow). (row.item.terms.seller == c.in-Ok.seller) && same_text row.item.lot c.args.lot.now in
+      let number = sound_number (state g.S.Store c.self.inside.conn).now.trees named sound in
+      let no : false ≡ true = c.if-not-is_item_number.ensures.whole (subst (λ (o : Option ℕ). IfSome o IsItem) (sym (c.in-Ok-item_with_lot.ensures.value honest)) number) in
+      absurd cc;
+})
 
 pub returns-else-not-is_item_number-clause-value : goal.returns-else-not-is_item_number-clause-value
 unfolding tables_in
 returns-else-not-is_item_number-clause-value g c =
     let seller : c.in-Ok.seller ≡ c.args.seller = search rules in
-    rw (← c.self.view_is, ← seller) (λ honest. c.in-Ok-item_with_lot.ensures.found honest)
+    rw (← c.self.view_is, ← seller) (λ honest. c.in-Ok-item_with_lot.ensures.value honest)
 
 pub returns-in-Err-clause-damaged : goal.returns-in-Err-clause-damaged
 unfolding tables_in
@@ -30,4 +43,10 @@ returns-in-Err-clause-damaged g c = rw (← c.self.view_is)
     let clean : HasCleanDisk (state g.S.Store c.item_with_lot.new.conn) = omega (arith, c.reported_fault.ensures.crash.clean, honest) in
     let seller : c.in-Ok.seller ≡ c.args.seller = search rules in
     let stored = rw (← seller) at fits in
-    c.in-Err.ensures.here clean (number_low _ stored) (ap Err is)))
+    c.in-Err.ensures.damaged clean (number_low _ stored) (ap Err is)))
+
+pub returns-in-Err-clause-faults : goal.returns-in-Err-clause-faults
+returns-in-Err-clause-faults g c = rw (← c.self.view_is)
+    (report_sound _ _ _ _ _ c.reported_fault.ensures.fault c.reported_fault.ensures.store (λ honest sound is.
+    let clean : HasCleanDisk (state g.S.Store c.item_with_lot.new.conn) = omega (arith, c.reported_fault.ensures.crash.clean, honest) in
+    c.in-Err.ensures.damaged clean (number_low _ (sound_number (state g.S.Store c.self.inside.conn).now.trees _ sound)) (ap Err is)))

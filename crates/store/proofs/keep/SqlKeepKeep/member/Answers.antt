@@ -13,4 +13,4 @@ returns-in-Err-clause-damaged g c = rw (← c.self.view_is)
     let clean : HasCleanDisk (state g.S.Store c.member_at.new.conn) = omega (arith, c.reported_fault.ensures.crash.clean, honest) in
     let same : c.in-Ok.member ≡ c.args.member = search rules in
     let stored = rw (← same) at fits in
-    c.in-Err.ensures.here clean stored (ap Err is)))
+    c.in-Err.ensures.finds.damaged clean stored (ap Err is)))

@@ -13,24 +13,24 @@ use Rattle.store.proofs.keep.SqlKeepKeep.question.Goals as goal
 pub returns-in-Ok-question_at-clause-value : goal.returns-in-Ok-question_at-clause-value
 unfolding tables_in
 returns-in-Ok-question_at-clause-value g c = λ honest.
-    let before : HasCleanDisk (state g.S.Store c.self.inside.conn) = omega (arith, c.in-Ok-question_at.ensures.read.crash.clean, honest) in
+    let before : HasCleanDisk (state g.S.Store c.self.inside.conn) = omega (arith, c.in-Ok-question_at.ensures.finds.read.crash.clean, honest) in
     let house = (c.self.invariant.rests (works _ _ c.self.view_is c.in_ok-serves.ensures.ok) before).house in
     let item : c.in-Ok.item ≡ c.args.item = search rules in
     let asker : c.in-Ok-try_from.asker ≡ c.args.asker = search rules in
     let number : c.in-Ok-try_from-2.number ≡ c.args.number = search rules in
     rw (← c.self.view_is, ← item, ← asker, ← number)
-    (c.in-Ok-question_at.ensures.found honest ∙ sym (question_found _ house c.in-Ok.item c.in-Ok-try_from.asker c.in-Ok-try_from-2.number (omega arith) (omega arith) (omega arith)))
+    (c.in-Ok-question_at.ensures.finds.value honest ∙ sym (question_found _ house c.in-Ok.item c.in-Ok-try_from.asker c.in-Ok-try_from-2.number (omega arith) (omega arith) (omega arith)))
 
 pub returns-in-Err-clause-damaged : goal.returns-in-Err-clause-damaged
 unfolding tables_in
 returns-in-Err-clause-damaged g c = rw (← c.self.view_is)
     (λ honest fits. not_reported _ _ _ c.reported_fault.ensures.fault c.reported_fault.ensures.store (λ is.
     let clean : HasCleanDisk (state g.S.Store c.question_at.new.conn) = omega (arith, c.reported_fault.ensures.crash.clean, honest) in
-    let before : HasCleanDisk (state g.S.Store c.self.inside.conn) = omega (arith, c.in-Err.ensures.read.crash.clean, clean) in
+    let before : HasCleanDisk (state g.S.Store c.self.inside.conn) = omega (arith, c.in-Err.ensures.finds.read.crash.clean, clean) in
     let db = (state g.S.Store c.self.inside.conn).now.trees in
     let house = (c.self.invariant.rests (works _ _ c.self.view_is c.in_ok-serves.ensures.ok) before).house in
     let item : c.in-Ok.item ≡ c.args.item = search rules in
     let asker : c.in-Ok-try_from.asker ≡ c.args.asker = search rules in
     let number : c.in-Ok-try_from-2.number ≡ c.args.number = search rules in
     let stored = rw (← item, ← asker, ← number) at fits in
-    c.in-Err.ensures.here clean (subst (λ (o : Option Question). IfSome o QuestionFits) (question_found (state g.S.Store c.self.inside.conn).now house c.in-Ok.item c.in-Ok-try_from.asker c.in-Ok-try_from-2.number (omega arith) (omega arith) (omega arith)) stored) (ap Err is)))
+    c.in-Err.ensures.finds.damaged clean (subst (λ (o : Option Question). IfSome o QuestionFits) (question_found (state g.S.Store c.self.inside.conn).now house c.in-Ok.item c.in-Ok-try_from.asker c.in-Ok-try_from-2.number (omega arith) (omega arith) (omega arith)) stored) (ap Err is)))

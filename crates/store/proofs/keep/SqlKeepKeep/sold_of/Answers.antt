@@ -6,7 +6,8 @@ use Rattle.store_rows.specs.Tables.{tables_in}
 use Rattle.house_rows.specs.Keeping.{FitsBy}
 use Rattle.house_rows.specs.Taken.{FitWhere, may_be_party}
 use Rattle.store_rows.specs.ItemRows.{items_in}
-use Rattle.store.proofs.Known.{all_are_consistent, known_serves, known_sound, known_where, not_reported, report_sound, works}
+use Rattle.store_items.proofs.SoundItems.{items_sound}
+use Rattle.store.proofs.Known.{all_are_consistent, known_serves, known_rows, known_where, not_reported, report_sound, works}
 use Rattle.store.proofs.keep.SqlKeepKeep.sold_of.Goals as goal
 
 pub sales_to-requires : goal.sales_to-requires
@@ -16,22 +17,22 @@ pub returns-in-Err-clause-faults : goal.returns-in-Err-clause-faults
 returns-in-Err-clause-faults g c = rw (← c.self.view_is)
     (report_sound _ _ _ _ _ c.reported_fault.ensures.fault c.reported_fault.ensures.store (λ honest sound is.
     let clean : HasCleanDisk (state g.S.Store c.sales_to.new.conn) = omega (arith, c.reported_fault.ensures.crash.clean, honest) in
-    let before : HasCleanDisk (state g.S.Store c.self.inside.conn) = omega (arith, c.in-Err.ensures.read.crash.clean, clean) in
-    c.in-Err.ensures.damaged clean (known_sound _ _ _ _ _ (c.self.invariant.known (works _ _ c.self.view_is c.in_ok-serves.ensures.ok) before) sound) (ap Err is)))
+    let before : HasCleanDisk (state g.S.Store c.self.inside.conn) = omega (arith, c.in-Err.ensures.finds.read.crash.clean, clean) in
+    c.in-Err.ensures.finds.damaged clean (items_sound c.self.inside.rules.editions (state g.S.Store c.self.inside.conn).now.trees (known_rows _ _ _ _ _ (c.self.invariant.known (works _ _ c.self.view_is c.in_ok-serves.ensures.ok) before) sound) (may_be_party c.in-Ok.member)) (ap Err is)))
 
 pub returns-in-Ok-sales_to-clause-is_consistent : goal.returns-in-Ok-sales_to-clause-is_consistent
 unfolding tables_in
 returns-in-Ok-sales_to-clause-is_consistent g c = λ honest.
-    let before : HasCleanDisk (state g.S.Store c.self.inside.conn) = omega (arith, c.in-Ok-sales_to.ensures.read.crash.clean, honest) in
+    let before : HasCleanDisk (state g.S.Store c.self.inside.conn) = omega (arith, c.in-Ok-sales_to.ensures.finds.read.crash.clean, honest) in
     let same : c.in-Ok.member ≡ c.args.member = search rules in
-    rw (← c.self.view_is, ← same) (all_are_consistent _ _ _ _ _ (c.self.invariant.known (works _ _ c.self.view_is c.in_ok-serves.ensures.ok) before) _ (c.in-Ok-sales_to.ensures.is_consistent honest))
+    rw (← c.self.view_is, ← same) (all_are_consistent _ _ _ _ _ (c.self.invariant.known (works _ _ c.self.view_is c.in_ok-serves.ensures.ok) before) _ (c.in-Ok-sales_to.ensures.finds.value honest).is_consistent)
 
 pub returns-in-Err-clause-damaged : goal.returns-in-Err-clause-damaged
 returns-in-Err-clause-damaged g c = rw (← c.self.view_is)
     (λ honest fits. not_reported _ _ _ c.reported_fault.ensures.fault c.reported_fault.ensures.store (λ is.
     let clean : HasCleanDisk (state g.S.Store c.sales_to.new.conn) = omega (arith, c.reported_fault.ensures.crash.clean, honest) in
-    let before : HasCleanDisk (state g.S.Store c.self.inside.conn) = omega (arith, c.in-Err.ensures.read.crash.clean, clean) in
+    let before : HasCleanDisk (state g.S.Store c.self.inside.conn) = omega (arith, c.in-Err.ensures.finds.read.crash.clean, clean) in
     let same : c.in-Ok.member ≡ c.args.member = search rules in
     let db = (state g.S.Store c.self.inside.conn).now.trees in
     let sold = λ (member : ℕ). FitWhere (may_be_party member) (FitsBy c.self.inside.rules.editions) (items_in db) in
-    c.in-Err.ensures.here clean (subst sold (sym same) (known_where _ _ _ _ _ (c.self.invariant.known (works _ _ c.self.view_is c.in_ok-serves.ensures.ok) before) _ fits)) (ap Err is)))
+    c.in-Err.ensures.finds.damaged clean (subst sold (sym same) (known_where _ _ _ _ _ (c.self.invariant.known (works _ _ c.self.view_is c.in_ok-serves.ensures.ok) before) _ fits)) (ap Err is)))

@@ -7,7 +7,8 @@ use Rattle.house_rows.specs.Taken.{FitWhere}
 use Rattle.house_rows.specs.Watches.{WatchRow}
 use Rattle.store_rows.specs.Rows.{watches_in}
 use Rattle.store_rows.proofs.Sound.{watches_where}
-use Rattle.store.proofs.Known.{not_reported}
+use Rattle.store_watches.proofs.WatchedItems.{watches_sound}
+use Rattle.store.proofs.Known.{not_reported, report_sound}
 use Rattle.store.proofs.keep.SqlKeepKeep.watch_count.Goals as goal
 
 pub returns-in-Err-clause-damaged : goal.returns-in-Err-clause-damaged
@@ -18,4 +19,10 @@ returns-in-Err-clause-damaged g c = rw (← c.self.view_is)
     let same : c.in-Ok.member ≡ c.args.member = search rules in
     let db = (state g.S.Store c.self.inside.conn).now.trees in
     let mine = λ (member : ℕ). FitWhere (λ (w : WatchRow). w.member == member) WatchRowFits (watches_in db) in
-    c.in-Err.ensures.here clean (subst mine (sym same) (watches_where db _ fits)) (ap Err is)))
+    c.in-Err.ensures.damaged clean (subst mine (sym same) (watches_where db _ fits)) (ap Err is)))
+
+pub returns-in-Err-clause-faults : goal.returns-in-Err-clause-faults
+returns-in-Err-clause-faults g c = rw (← c.self.view_is)
+    (report_sound _ _ _ _ _ c.reported_fault.ensures.fault c.reported_fault.ensures.store (λ honest sound is.
+    let clean : HasCleanDisk (state g.S.Store c.watch_count.new.conn) = omega (arith, c.reported_fault.ensures.crash.clean, honest) in
+    c.in-Err.ensures.damaged clean (watches_sound _ _ sound) (ap Err is)))

@@ -12,6 +12,7 @@ use Rattle.store_rows.specs.ItemRows.{items_in}
 use Rattle.store_rows.specs.Rows.{watches_in}
 use Rattle.store_rows.specs.Tables.{tables_in}
 use Rattle.store_rows.proofs.Sound.{watches_where}
+use Rattle.store_watches.proofs.WatchedItems.{watched_sound}
 use Rattle.store.proofs.Known.{items_are_consistent, known_serves, known_sound, known_where, not_reported, report_sound, works}
 use Rattle.store.proofs.keep.SqlKeepKeep.watches_of.Goals as goal
 
@@ -22,21 +23,21 @@ pub returns-in-Err-clause-faults : goal.returns-in-Err-clause-faults
 returns-in-Err-clause-faults g c = rw (← c.self.view_is)
     (report_sound _ _ _ _ _ c.reported_fault.ensures.fault c.reported_fault.ensures.store (λ honest sound is.
     let clean : HasCleanDisk (state g.S.Store c.items_watched.new.conn) = omega (arith, c.reported_fault.ensures.crash.clean, honest) in
-    let before : HasCleanDisk (state g.S.Store c.self.inside.conn) = omega (arith, c.in-Err.ensures.read.crash.clean, clean) in
-    c.in-Err.ensures.damaged clean (known_sound _ _ _ _ _ (c.self.invariant.known (works _ _ c.self.view_is c.in_ok-serves.ensures.ok) before) sound) (ap Err is)))
+    let before : HasCleanDisk (state g.S.Store c.self.inside.conn) = omega (arith, c.in-Err.ensures.finds.read.crash.clean, clean) in
+    c.in-Err.ensures.finds.damaged clean (watched_sound _ _ _ (known_sound _ _ _ _ _ (c.self.invariant.known (works _ _ c.self.view_is c.in_ok-serves.ensures.ok) before) sound)) (ap Err is)))
 
 pub returns-in-Ok-items_watched-clause-is_consistent : goal.returns-in-Ok-items_watched-clause-is_consistent
 returns-in-Ok-items_watched-clause-is_consistent g c = λ honest.
-    let before : HasCleanDisk (state g.S.Store c.self.inside.conn) = omega (arith, c.in-Ok-items_watched.ensures.read.crash.clean, honest) in
-    rw (← c.self.view_is) (items_are_consistent _ _ _ _ _ (c.self.invariant.known (works _ _ c.self.view_is c.in_ok-serves.ensures.ok) before) _ c.in-Ok-items_watched.ensures.is_consistent)
+    let before : HasCleanDisk (state g.S.Store c.self.inside.conn) = omega (arith, c.in-Ok-items_watched.ensures.finds.read.crash.clean, honest) in
+    rw (← c.self.view_is) (items_are_consistent _ _ _ _ _ (c.self.invariant.known (works _ _ c.self.view_is c.in_ok-serves.ensures.ok) before) _ c.in-Ok-items_watched.ensures.fits.is_consistent)
 
 pub returns-in-Err-clause-damaged : goal.returns-in-Err-clause-damaged
 returns-in-Err-clause-damaged g c = rw (← c.self.view_is)
     (λ honest watches items. not_reported _ _ _ c.reported_fault.ensures.fault c.reported_fault.ensures.store (λ is.
     let clean : HasCleanDisk (state g.S.Store c.items_watched.new.conn) = omega (arith, c.reported_fault.ensures.crash.clean, honest) in
-    let before : HasCleanDisk (state g.S.Store c.self.inside.conn) = omega (arith, c.in-Err.ensures.read.crash.clean, clean) in
+    let before : HasCleanDisk (state g.S.Store c.self.inside.conn) = omega (arith, c.in-Err.ensures.finds.read.crash.clean, clean) in
     let same : c.in-Ok.member ≡ c.args.member = search rules in
     let db = (state g.S.Store c.self.inside.conn).now.trees in
     let mine = λ (member : ℕ). FitWhere (λ (w : WatchRow). w.member == member) WatchRowFits (watches_in db) in
     let theirs = λ (member : ℕ). FitWhere (λ (row : ItemRow). is_watched (tables_in db) member row.item.terms.item) (FitsBy c.self.inside.rules.editions) (items_in db) in
-    c.in-Err.ensures.here clean (subst mine (sym same) (watches_where db _ watches)) (subst theirs (sym same) (known_where _ _ _ _ _ (c.self.invariant.known (works _ _ c.self.view_is c.in_ok-serves.ensures.ok) before) _ items)) (ap Err is)))
+    c.in-Err.ensures.finds.damaged clean (record { watches = subst mine (sym same) (watches_where db _ watches); items = subst theirs (sym same) (known_where _ _ _ _ _ (c.self.invariant.known (works _ _ c.self.view_is c.in_ok-serves.ensures.ok) before) _ items) }) (ap Err is)))

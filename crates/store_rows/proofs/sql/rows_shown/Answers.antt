@@ -1,7 +1,7 @@
 use Rattle.std.proofs.Common.{arith, rules}
 use Rattle.sqlite.specs.Held.{state}
 use Rattle.store_rows.proofs.StateLemmas.{shown_same, query_ended, only_reads, plain_at}
-use Rattle.store_rows.proofs.statement.rows_shown.Goals as goal
+use Rattle.store_rows.proofs.sql.rows_shown.Goals as goal
 
 pub returns-in-Ok-clause-read : goal.returns-in-Ok-clause-read
 returns-in-Ok-clause-read g c =

@@ -1,5 +1,5 @@
 //! The close of every item that is due.
-ghost use Rattle.std.specs.Prelude.{◌≡◌, ◌<◌, ◌^◌, false, IfOk, OnOk, IsErrOf};
+ghost use Rattle.std.specs.Prelude.{◌≡◌, ◌<◌, ◌^◌, false, OnOk, IsErrOf};
 ghost use Rattle.sqlite.specs.State.{HasCleanDisk};
 ghost use Rattle.sqlite.specs.Held.{state};
 ghost use Rattle.house_rows.specs.Tables.{band_tables};
@@ -15,8 +15,9 @@ ghost use Rattle.store_rows.specs.Rows.{reserves_in};
 ghost use Rattle.store_rows.specs.Tables.{Changes, IsNumbered, Rests, tables_in};
 ghost use Rattle.store_items.specs.ConsistentRows.{RowsFit, RowsAreConsistent};
 ghost use Rattle.store_items.specs.Sales.{IsDue, SetsItems, StartsFit, with_ends};
-ghost use Rattle.store_rows.specs.Frames.{OnlyReads, WritesMany};
+ghost use Rattle.store_rows.specs.Frames.{Finds, WritesMany};
 ghost use Rattle.store_rows.specs.Commits.{Commits};
+ghost use Rattle.store_items.specs.LookUps.{ItemsFitBy, TakesDue};
 
 use crate::item::set_closed;
 use crate::sold_rule::close_sells;
@@ -34,19 +35,9 @@ fn find_due<S: Alter>(
     moment: u32,
 ) -> Result<Vec<Terms>, KeepFault>
     requires { ServesBy rules.now.reserves (state S.Store conn.old) }
-    ensures due { HasCleanDisk (state S.Store conn.new)
-        → IfOk result (λ due. IsDue moment due.items (state S.Store conn.old).now) }
-    ensures fits { HasCleanDisk (state S.Store conn.new)
-        → OnOk result (RowsFit (λ row. is_due moment row.item.terms)
-        (state S.Store conn.old).now.trees) }
-    ensures is_consistent { HasCleanDisk (state S.Store conn.new)
-        → OnOk result (RowsAreConsistent rules.now.editions (λ row. is_due moment row.item.terms)
-        (state S.Store conn.old).now.trees) }
-    ensures damaged { HasCleanDisk (state S.Store conn.new)
-        → FitWhere (λ row. is_due moment row.item.terms) (FitsBy rules.now.editions)
-        (items_in (state S.Store conn.old).now.trees)
-        → ¬ (IsErrOf result Damaged) }
-    ensures read { OnlyReads (state S.Store conn.old) (state S.Store conn.new) result }
+    ensures { Finds S.Store conn.old conn.new result
+        (λ db due. TakesDue rules.now.editions moment db due.items)
+        (ItemsFitBy rules.now.editions (λ row. is_due moment row.item.terms)) }
 {
     due_terms(alloc, conn, rules, moment)
 }
@@ -80,7 +71,7 @@ fn write_close<S: Alter>(
     requires numbered { HasCleanDisk (state S.Store tx.old.conn.now)
         → IsNumbered (state S.Store tx.old.conn.now).now.trees }
     requires due { HasCleanDisk (state S.Store tx.old.conn.now)
-        → IsDue moment due.now (state S.Store tx.old.conn.now).now }
+        → IsDue moment due.now (state S.Store tx.old.conn.now).now.trees }
     ensures same_reference { tx.new.conn.ghost_name ≡ tx.old.conn.ghost_name }
     ensures ok { HasCleanDisk (state S.Store tx.new.conn.now)
         → OnOk result (Changes (Close moment) (state S.Store tx.old.conn.now).now

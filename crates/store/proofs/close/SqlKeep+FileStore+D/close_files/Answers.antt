@@ -1,5 +1,5 @@
 use Rattle.store.proofs.Closed.{ended, not_ended}
-use Rattle.store.proofs.closure.SqlKeep+FileStore+D.close_files.Goals as goal
+use Rattle.store.proofs.close.SqlKeep+FileStore+D.close_files.Goals as goal
 
 pub returns-in-Ok-clause-ended : goal.returns-in-Ok-clause-ended
 returns-in-Ok-clause-ended g c = rw (← c.self.view_is) (

@@ -2,7 +2,7 @@ use Rattle.std.proofs.Common.{◌≡◌, IsTrue, drop}
 use Rattle.sqlite.specs.State.{HasCleanDisk, Survives}
 use Rattle.sqlite.specs.Held.{state}
 use Rattle.store_items.proofs.Closed.{IsClosing}
-use Rattle.store_items.proofs.closure.close_items.Given as goal
+use Rattle.store_items.proofs.auction_end.close_items.Given as goal
 
 abbrev pub invariant-loop-terms : goal.invariant-loop-terms
 invariant-loop-terms g l =

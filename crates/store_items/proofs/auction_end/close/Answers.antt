@@ -13,7 +13,7 @@ use Rattle.store_rows.proofs.CommitSteps.{survives_change, survives_commit}
 use Rattle.store_items.specs.ConsistentRows.{RowsFit, RowsAreConsistent}
 use Rattle.store_items.proofs.ConsistentRows.{ok_so}
 use Rattle.store_items.proofs.Undone.{back_undone, survives_undone}
-use Rattle.store_items.proofs.closure.close.Goals as goal
+use Rattle.store_items.proofs.auction_end.close.Goals as goal
 
 pub find_due-requires : goal.find_due-requires
 find_due-requires g c clean = let rest = c.requires.rests clean in (rest.is_open, rest.house, c.requires.reserves clean)
@@ -78,7 +78,7 @@ returns-clause-fits g c =
     c.transaction-tx.ensures.begun c.write_close.ensures.write.crash c.commit.ensures.crash c.in_ok-write_close.ensures.ok in
     let report : HasCleanDisk last → OnOk c.commit.result (RowsFit (λ (row : ItemRow). is_due c.args.moment row.item.terms) old.now.trees) = λ clean.
     let first : HasCleanDisk mid = omega (arith, made.clean, clean) in
-    ok_so c.commit.result (subst (λ (m : ℕ). RowsFit (λ (row : ItemRow). is_due m row.item.terms) old.now.trees) c.in_ok-moment.ensures.value (c.in_ok-due.ensures.fits first)) in
+    ok_so c.commit.result (subst (λ (m : ℕ). RowsFit (λ (row : ItemRow). is_due m row.item.terms) old.now.trees) c.in_ok-moment.ensures.value (c.in_ok-due.ensures.value first).fits) in
     search (rules, report)
 
 pub returns-clause-is_consistent : goal.returns-clause-is_consistent
@@ -91,5 +91,5 @@ returns-clause-is_consistent g c =
     c.transaction-tx.ensures.begun c.write_close.ensures.write.crash c.commit.ensures.crash c.in_ok-write_close.ensures.ok in
     let report : HasCleanDisk last → OnOk c.commit.result (RowsAreConsistent c.args.rules.now.editions (λ (row : ItemRow). is_due c.args.moment row.item.terms) old.now.trees) = λ clean.
     let first : HasCleanDisk mid = omega (arith, made.clean, clean) in
-    ok_so c.commit.result (subst (λ (m : ℕ). RowsAreConsistent c.args.rules.now.editions (λ (row : ItemRow). is_due m row.item.terms) old.now.trees) c.in_ok-moment.ensures.value (c.in_ok-due.ensures.is_consistent first)) in
+    ok_so c.commit.result (subst (λ (m : ℕ). RowsAreConsistent c.args.rules.now.editions (λ (row : ItemRow). is_due m row.item.terms) old.now.trees) c.in_ok-moment.ensures.value (c.in_ok-due.ensures.value first).is_consistent) in
     search (rules, report)

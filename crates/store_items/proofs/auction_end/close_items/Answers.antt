@@ -3,7 +3,7 @@ use Rattle.sqlite.specs.Held.{state}
 use Rattle.sqlite.specs.State.{HasCleanDisk}
 use Rattle.sqlite.proofs.StateLemmas.{survives_then}
 use Rattle.store_items.proofs.Closed.{closing_done, closing_steps}
-use Rattle.store_items.proofs.closure.close_items.Goals as goal
+use Rattle.store_items.proofs.auction_end.close_items.Goals as goal
 
 pub loop-terms-preserved : goal.loop-terms-preserved
 loop-terms-preserved g c =

@@ -4,7 +4,7 @@ use Rattle.sqlite.specs.State.{HasCleanDisk}
 use Rattle.store_rows.proofs.StateLemmas.{ok_then}
 use Rattle.store_items.proofs.Closed.{starts_fit}
 use Rattle.store_items.proofs.Sold.{closes}
-use Rattle.store_items.proofs.closure.write_close.Goals as goal
+use Rattle.store_items.proofs.auction_end.write_close.Goals as goal
 
 pub returns-clause-ok : goal.returns-clause-ok
 returns-clause-ok g c clean =
