@@ -12,7 +12,7 @@ use Rattle.device.specs.declared.source.Source as source
 use Rattle.house_rows.specs.Keeping.{IsRead}
 use Rattle.house_rows.specs.Tables.{Tables, tables_of}
 use Rattle.house_rows.specs.declared.settings.Settings.{Settings}
-use Rattle.office.specs.declared.order.Lister.{Lister}
+use Rattle.office.specs.declared.lister.Lister.{Lister}
 use Rattle.settle.specs.Zoned.{IsZoneOf}
 use Rattle.settle.specs.declared.zone.Zone.{Zone}
 use Rattle.site.specs.Answers.{IsStep}

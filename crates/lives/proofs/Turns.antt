@@ -7,7 +7,7 @@ use Rattle.device.specs.declared.source.Source as source
 use Rattle.house_rows.specs.declared.keep.Keep as keep
 use Rattle.office.specs.Imports.{HasOrdered, IsOrder}
 use Rattle.office.specs.declared.lot.Lot.{Lot}
-use Rattle.office.specs.declared.order.Lister.{Lister}
+use Rattle.office.specs.declared.lister.Lister.{Lister}
 use Rattle.settle.specs.declared.zone.Zone.{Zone}
 use Rattle.site.specs.Answers.{IsStep}
 use Rattle.site.specs.Runs.{InTurn}

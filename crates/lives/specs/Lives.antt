@@ -5,7 +5,7 @@ use Rattle.house_laws.specs.Lives.{Life, life_history, lives_history}
 use Rattle.house_rows.specs.Keeping.{IsRead}
 use Rattle.house_rows.specs.declared.command.Command.TheVariants.{SetBands}
 use Rattle.house_rows.specs.declared.keep.Keep as keep
-use Rattle.house_rows.specs.declared.message.Message.TheVariants.{Order}
+use Rattle.house_rows.specs.declared.message.Message.TheVariants.{Write}
 use Rattle.house_rows.specs.declared.settings.Settings.{Settings}
 use Rattle.house_rows.specs.History.{History}
 use Rattle.house_rows.specs.Tables.{Tables, tables_of}
@@ -146,7 +146,7 @@ EndsAs g left files Is = Is (Leaves g left) ⊎ Is (λ keep. IsLeft g keep files
 
 -- the house's command to set a band table, as a message
 abbrev pub setting : ℕ → List (ℕ × ℕ) → Asked
-setting moment bands = record { closes = false; message = Order moment 0 (SetBands bands) }
+setting moment bands = record { closes = false; message = Write moment 0 (SetBands bands) }
 
 -- the life of a house to which this happened and nothing was in flight
 abbrev pub life_of : List Asked → Life Asked

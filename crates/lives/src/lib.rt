@@ -18,9 +18,9 @@ ghost use Rattle.house_rows.specs.History.{History};
 ghost use Rattle.house_rows.specs.Tables.{tables_of};
 ghost use Rattle.house_rows.specs.Verdict.{IsHistory};
 ghost use Rattle.lives.specs.Lives.{Answers, AreInTurn, AreLivesOf, AreRuns, AreToldAlike, EndsAs, FindsHistory, FindsTables, HoldHistory, IsRun, IsRunTo, IsUnended, LeaveHistories, LeavesLife, MayAnswer, MayFind, MaySet, Run, over_disk};
-ghost use Rattle.office.specs.declared.order.Lister.{Lister};
+ghost use Rattle.office.specs.declared.lister.Lister.{Lister};
 ghost use Rattle.settle.specs.declared.zone.Zone.{Zone};
-ghost use Rattle.site.specs.Answers.{IsStep};
+ghost use Rattle.site.specs.Histories.{Steps};
 ghost use Rattle.site.specs.Runs.{meant};
 ghost use Rattle.site_connections.specs.Turns.{HasTakenSome, Takes};
 ghost use Rattle.site_request.specs.declared.asked.Asked.{Asked};
@@ -98,7 +98,7 @@ pub fn connections_are_messages_in_turn<C: Connections, K: Keep>()
     ensures { (zone : Zone) (most count : ℕ) (old : C × K) (last : K)
         → HasTakenSome K.is_failed (Takes K.Keep C.Input.Source C.Output.Sink C.accepts C.ends zone
         most) count old last
-        → AreInTurn (IsStep K.content K.is_failed K.is_honest K.may_leave zone) old.1 last }
+        → AreInTurn (Steps K.Keep zone) old.1 last }
 {}
 
 /// What serving leaves of the files, or of the store where its keep could not be ended, is left by a run of

@@ -8,7 +8,7 @@ use Rattle.std.proofs.lemmas.List.{append_cancel_left}
 use Rattle.house_rows.specs.declared.fault.KeepFault.{KeepFault}
 use Rattle.house_rows.specs.declared.fault.KeepFault.TheVariants.{Memory, Store, Damaged}
 use Rattle.house_rows.specs.declared.message.Message.{Message}
-use Rattle.house_rows.specs.declared.message.Message.TheVariants.{Broken, Order, Read}
+use Rattle.house_rows.specs.declared.message.Message.TheVariants.{Broken, Write, Read}
 use Rattle.house_rows.specs.declared.query.Query.{Query}
 use Rattle.house_rows.specs.declared.reply.Reply.{Reply}
 use Rattle.house_rows.specs.declared.reply.Reply.TheVariants.{Done, Denied, Faulty, Shows}
@@ -67,7 +67,7 @@ damage_not_store closes e = not_both _ (store_is_of_17 closes) (rw e at (damage_
 
 -- what asks for anything may ask
 asks_may : (message : Message Fault) → is_asking message ≡ true → may_ask message ≡ true
-asks_may (Order moment caller command) asks = refl
+asks_may (Write moment caller command) asks = refl
 asks_may (Read caller query) asks = refl
 asks_may (Broken caller f) asks = absurd (let wrong : false ≡ true = asks in cc)
 
@@ -114,7 +114,7 @@ read_shown : (message : Message Fault) (zone : Zone) (t : Tables) (closes : Bool
     ++ reply_text zone closes (Shows (page_by t caller query))))
     → IfRead message (λ caller query.
     text ≡ reply_text zone closes (Shows (page_by t caller query)))
-read_shown (Order moment caller command) zone t closes u before after text e shown = tt
+read_shown (Write moment caller command) zone t closes u before after text e shown = tt
 read_shown (Read caller query) zone t closes u before after text e shown =
     append_cancel_left before text
     (reply_text zone closes (Shows (page_by t caller query))) (sym e ∙ shown)
@@ -136,7 +136,7 @@ own_text message zone t now closes before after text e
         append_cancel_left before text (reply_text zone closes (Done report)) (sym e ∙ told),
       ),
     )
-own_text (Order moment caller command) zone t now closes before after text e
+own_text (Write moment caller command) zone t now closes before after text e
     (inl (same, (refusal, told))) = inl (
       same,
       (

@@ -3,7 +3,7 @@ use Rattle.std.proofs.Common.{◌≡◌, ◌⊎◌, ◌∙◌, ◌++◌, ◌∷�
 use Rattle.std.specs.Prelude.{Option, Some, None, is_none}
 use Rattle.std.specs.List.{AllByRecursion, AllZip}
 use Rattle.house_rows.specs.declared.message.Message.{Message}
-use Rattle.house_rows.specs.declared.message.Message.TheVariants.{Order, Read, Broken}
+use Rattle.house_rows.specs.declared.message.Message.TheVariants.{Write, Read, Broken}
 use Rattle.house_rows.specs.declared.command.Command.{Command}
 use Rattle.house_rows.specs.declared.refusal.Refusal.{Refusal}
 use Rattle.house_rows.specs.declared.settings.Settings.{Settings}
@@ -64,14 +64,14 @@ next_is settings h m is = next_is_history settings h m.message is
 
 stays_if : (settings : Settings) (h : History) (moment caller : ℕ) (command : Command)
     (o : Option Refusal) → verdict settings h moment caller command ≡ o → is_none o ≡ false
-    → next {F = Fault} settings h (Order moment caller command) ≡ h
+    → next {F = Fault} settings h (Write moment caller command) ≡ h
 stays_if settings h moment caller command None e not = cc
 stays_if settings h moment caller command (Some refusal) e not =
     next_refused Fault settings h moment caller command refusal e
 
 stays : (settings : Settings) (h : History) (m : Message Fault) → is_entered settings h m ≡ false
     → next settings h m ≡ h
-stays settings h (Order moment caller command) not =
+stays settings h (Write moment caller command) not =
     stays_if settings h moment caller command (verdict settings h moment caller command) refl not
 stays settings h (Read caller query) not = next_read Fault settings h caller query
 stays settings h (Broken caller fault) not = next_broken settings h caller fault

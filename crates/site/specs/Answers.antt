@@ -15,7 +15,7 @@ use Rattle.jiff.specs.Words.{read_whole}
 use Rattle.pages_laws.specs.ByTables.{page_by}
 use Rattle.settle.specs.Zoned.{IsPlainText}
 use Rattle.settle.specs.declared.zone.Zone.{Zone}
-use Rattle.site_acts.specs.Acted.{IfRead, IsKeyTaken, IsMade, IsOwnChangeOrNone, IsTaken}
+use Rattle.site_acts.specs.Acted.{IfRead, IsMade, IsOwnChangeOrNone, IsTaken}
 use Rattle.site_acts.specs.Acted.{MessageRowsFit, is_asking, is_entered}
 use Rattle.site_request.specs.Asked.{may_ask}
 use Rattle.site_request.specs.declared.asked.Asked.{Asked}
@@ -126,7 +126,7 @@ pub record IsStep {K : Type 0} (content : K → Tables) (is_failed : K → Bool)
   -- nor is it answered over any tables in which the rows fit that the message takes
   pub undamaged : is_honest new → MessageRowsFit (content old) asked.message
       → is_failure reply ≡ true
-      → (is_failed new ≡ true) ⊎ IsKeyTaken (content old) asked.message
+      → (is_failed new ≡ true) ⊎ IsTaken (content old) asked.message
   -- and where the store has failed, each command and each read is answered so, and never that
   -- memory was refused
   pub down : is_failed new ≡ true → IsDown asked reply

@@ -2,11 +2,11 @@
 ghost use Rattle.std.specs.Prelude.{◌≡◌, ◌↔◌, [], ℕ, List, Ok, Err, IfErr, IfOk, IsOk, OnOk, false, true};
 ghost use Rattle.std.specs.Borrow.{sem};
 ghost use Rattle.std.specs.Cow.{cow_slice_items};
+ghost use Rattle.house_rows.specs.Answers.{OverHistory, Reads};
 ghost use Rattle.house_rows.specs.declared.settings.Settings.{Settings as TheSettings};
 ghost use Rattle.house_rows.specs.History.{History};
-ghost use Rattle.house_rows.specs.Keeping.{Faults, IsRead};
+ghost use Rattle.house_rows.specs.Keeping.{Faults};
 ghost use Rattle.house_rows.specs.Tables.{tables_of};
-ghost use Rattle.house_rows.specs.Verdict.{IsHistory};
 ghost use Rattle.pages_record.specs.Record.{record_text};
 ghost use Rattle.settle.specs.Zoned.{IsZoneOf};
 ghost use Rattle.steps.specs.Table.{IsBandTable};
@@ -15,7 +15,8 @@ ghost use Rattle.site_request.specs.declared.asked.Asked.{Asked as TheAsked};
 ghost use Rattle.site_replies.specs.Texts.{fault_text};
 ghost use Rattle.wire.specs.Frame.{IsFrame};
 ghost use Rattle.wire.specs.declared.fault.WireFault.{WireFault};
-ghost use Rattle.site.specs.Answers.{IsAppended, IsBegun, IsDown, IsReadable, IsStep, IsReported, broken_text, without_keep, zone_of};
+ghost use Rattle.site.specs.Answers.{IsAppended, IsBegun, IsDown, IsReadable, IsReported, broken_text, without_keep, zone_of};
+ghost use Rattle.site.specs.Histories.{Steps};
 ghost use Rattle.site.specs.Lent.{LendsKeep};
 
 use house_rows::{Counts, Keep, KeepFault, Settings};
@@ -153,7 +154,7 @@ impl<K: Keep + Drop> Site<K> {
         out: &mut Vec<u8>,
     ) -> Result<(), &'static [u8]>
         ensures step { (reply : List ℕ) × IsAppended result out.old.items out.new.items reply
-            × IsStep K.content K.is_failed K.is_honest K.may_leave (zone_of self.old)
+            × Steps K.Keep (zone_of self.old)
             (asked_of (Ok request.now)) reply self.old.keep self.new.keep }
         ensures zone { zone_of self.new ≡ zone_of self.old }
     {
@@ -168,7 +169,7 @@ impl<K: Keep + Drop> Site<K> {
 
     // Answers a message by bytes of its own.
     fn answer_whole(&mut self, request: &Request<'_>) -> Reply
-        ensures step { IsStep K.content K.is_failed K.is_honest K.may_leave (zone_of self.old)
+        ensures step { Steps K.Keep (zone_of self.old)
             (asked_of (Ok request.now)) (cow_slice_items result) self.old.keep self.new.keep }
         ensures zone { zone_of self.new ≡ zone_of self.old }
     {
@@ -182,7 +183,7 @@ impl<K: Keep + Drop> Site<K> {
     /// Answers a text that is to be one message. The answer to a broken frame takes no memory.
     pub fn answer(&mut self, message: &[u8]) -> Reply
         ensures step { (asked : TheAsked) × IsAsked message.now asked
-            × IsStep K.content K.is_failed K.is_honest K.may_leave (zone_of self.old)
+            × Steps K.Keep (zone_of self.old)
             asked (cow_slice_items result) self.old.keep self.new.keep }
         // Whatever the keep holds, and whatever memory is refused.
         ensures down { K.is_failed self.old.keep ≡ true → (asked : TheAsked)
@@ -204,8 +205,7 @@ impl<K: Keep + Drop> Site<K> {
             → IfOk result (λ text. text.items ≡ record_text settings h) }
         ensures faults { Faults result (K.is_honest self.new.keep) (K.is_failed self.new.keep)
             (K.content self.old.keep) }
-        ensures read { IsRead K.content K.is_failed K.is_honest K.may_leave
-            self.old.keep self.new.keep }
+        ensures read { Reads K.Keep self.old.keep self.new.keep }
         ensures zone { zone_of self.new ≡ zone_of self.old }
     {
         let mut text = Vec::new(self.alloc);
@@ -216,14 +216,11 @@ impl<K: Keep + Drop> Site<K> {
     /// Whether no command was accepted yet, but closes of an empty house at moment 0, which leave
     /// no trace.
     pub fn is_new(&mut self) -> Result<bool, KeepFault>
-        ensures report { K.is_honest self.new.keep → (settings : TheSettings) (h : History)
-            → IsHistory settings h → K.content self.old.keep ≡ tables_of settings h
-            → IfOk result (λ new.
-            (new ≡ true) ↔ (K.content self.old.keep ≡ tables_of settings [])) }
+        ensures report { OverHistory K.Keep self.old.keep self.new.keep (λ settings h. IfOk result
+            (λ new. (new ≡ true) ↔ (K.content self.old.keep ≡ tables_of settings []))) }
         ensures faults { Faults result (K.is_honest self.new.keep) (K.is_failed self.new.keep)
             (K.content self.old.keep) }
-        ensures read { IsRead K.content K.is_failed K.is_honest K.may_leave
-            self.old.keep self.new.keep }
+        ensures read { Reads K.Keep self.old.keep self.new.keep }
         ensures zone { zone_of self.new ≡ zone_of self.old }
     {
         let newest = self.keep.newest()?;

@@ -5,10 +5,9 @@ ghost use Rattle.std.specs.List.{AllByRecursion, AllZip};
 ghost use Rattle.steps.specs.Table.{IsBandTable};
 ghost use Rattle.house_laws.specs.Covered.{Sealed};
 ghost use Rattle.house_rows.specs.declared.settings.Settings.{Settings as TheSettings};
-ghost use Rattle.house_rows.specs.History.{History};
 ghost use Rattle.house_rows.specs.Tables.{tables_of};
-ghost use Rattle.house_rows.specs.Verdict.{IsHistory};
-ghost use Rattle.site.specs.Answers.{IsStep, zone_of};
+ghost use Rattle.site.specs.Answers.{zone_of};
+ghost use Rattle.site.specs.Histories.{OverMessages, Steps};
 ghost use Rattle.site.specs.Lives.{LeavesALife, LivesOn};
 ghost use Rattle.site.specs.Runs.{AreDown, InTurn, IsCoveredRun, IsGoing, IsHidden, Raises, Ran, StaysDown, Stopped, TellsFault, TwinRuns, answers_to, at_places};
 ghost use Rattle.site_request.specs.Asked.{IsAsked};
@@ -35,22 +34,18 @@ impl<K: Keep + Drop> Site<K> {
     pub fn run(&mut self, messages: &[Vec<u8>]) -> Result<Vec<Reply>, RunFault>
         ensures steps { IfOk result (λ v. (asked : List TheAsked)
             × AllZip IsAsked (map (λ m. m.items) messages.now) asked
-            × InTurn (IsStep K.content K.is_failed K.is_honest K.may_leave (zone_of self.old))
+            × InTurn (Steps K.Keep (zone_of self.old))
             asked (map cow_slice_items v.items) self.old.keep self.new.keep) }
-        ensures ran { K.is_honest self.new.keep
-            → (settings : TheSettings) (h : History) → IsHistory settings h
-            → K.content self.old.keep ≡ tables_of settings h
-            → (asked : List TheAsked) → AllZip IsAsked (map (λ m. m.items) messages.now) asked
-            → IfOk result (λ v. AllByRecursion IsGoing (map cow_slice_items v.items)
+        ensures ran { OverMessages K.Keep self.old.keep self.new.keep
+            (map (λ m. m.items) messages.now) (λ settings h asked. IfOk result (λ v.
+            AllByRecursion IsGoing (map cow_slice_items v.items)
             → Ran K.content K.is_failed K.may_leave settings (zone_of self.old) h
-            asked (map cow_slice_items v.items) self.old.keep self.new.keep) }
-        ensures stopped { K.is_honest self.new.keep
-            → (settings : TheSettings) (h : History) → IsHistory settings h
-            → K.content self.old.keep ≡ tables_of settings h
-            → (asked : List TheAsked) → AllZip IsAsked (map (λ m. m.items) messages.now) asked
-            → IfOk result (λ v. ¬ (AllByRecursion IsGoing (map cow_slice_items v.items))
+            asked (map cow_slice_items v.items) self.old.keep self.new.keep)) }
+        ensures stopped { OverMessages K.Keep self.old.keep self.new.keep
+            (map (λ m. m.items) messages.now) (λ settings h asked. IfOk result (λ v.
+            ¬ (AllByRecursion IsGoing (map cow_slice_items v.items))
             → Stopped K.content K.is_failed K.may_leave settings (zone_of self.old) h
-            asked (map cow_slice_items v.items) self.old.keep self.new.keep) }
+            asked (map cow_slice_items v.items) self.old.keep self.new.keep)) }
         ensures isolation { K.is_honest self.new.keep
             → (settings : TheSettings) → K.content self.old.keep ≡ tables_of settings []
             → IfOk result (λ v. AllByRecursion IsServed (map cow_slice_items v.items)
@@ -62,21 +57,17 @@ impl<K: Keep + Drop> Site<K> {
             ≡ answers_to settings (zone_of self.old) c seconds) }
         // The same of a house that lives on, over any history; and the next run goes on from what
         // this one leaves.
-        ensures isolation_from { K.is_honest self.new.keep
-            → (settings : TheSettings) (h : History) → IsHistory settings h
-            → K.content self.old.keep ≡ tables_of settings h
-            → (asked : List TheAsked) → AllZip IsAsked (map (λ m. m.items) messages.now) asked
-            → IfOk result (λ v. AllByRecursion IsServed (map cow_slice_items v.items)
+        ensures isolation_from { OverMessages K.Keep self.old.keep self.new.keep
+            (map (λ m. m.items) messages.now) (λ settings h asked. IfOk result (λ v.
+            AllByRecursion IsServed (map cow_slice_items v.items)
             → LivesOn K.content settings (zone_of self.old) h
-            asked (map cow_slice_items v.items) self.new.keep) }
+            asked (map cow_slice_items v.items) self.new.keep)) }
         // However it ends, a crash leaves the tables of a life: of what was served, and of what the
         // store failed in, which is in or out.
-        ensures life { K.is_honest self.new.keep
-            → (settings : TheSettings) (h : History) → IsHistory settings h
-            → K.content self.old.keep ≡ tables_of settings h
-            → (asked : List TheAsked) → AllZip IsAsked (map (λ m. m.items) messages.now) asked
-            → IfOk result (λ v. LeavesALife K.content K.may_leave settings (zone_of self.old) h
-            asked (map cow_slice_items v.items) self.old.keep self.new.keep) }
+        ensures life { OverMessages K.Keep self.old.keep self.new.keep
+            (map (λ m. m.items) messages.now) (λ settings h asked. IfOk result (λ v.
+            LeavesALife K.content K.may_leave settings (zone_of self.old) h
+            asked (map cow_slice_items v.items) self.old.keep self.new.keep)) }
         // However far the last leader raises a bid that covers what leading takes.
         ensures surplus { K.is_honest self.new.keep
             → (settings : TheSettings) → IsBandTable settings.bands

@@ -13,7 +13,7 @@ use Rattle.house_rows.specs.declared.command.Command.{Command}
 use Rattle.house_rows.specs.declared.fault.KeepFault.{KeepFault}
 use Rattle.house_rows.specs.declared.fault.KeepFault.TheVariants.{Memory}
 use Rattle.house_rows.specs.declared.message.Message.{Message}
-use Rattle.house_rows.specs.declared.message.Message.TheVariants.{Order, Read, Broken}
+use Rattle.house_rows.specs.declared.message.Message.TheVariants.{Write, Read, Broken}
 use Rattle.house_rows.specs.declared.refusal.Refusal.{Refusal}
 use Rattle.house_rows.specs.declared.reply.Reply.{Reply}
 use Rattle.house_rows.specs.declared.reply.Reply.TheVariants.{Done, Denied, Faulty, Shows}
@@ -50,7 +50,7 @@ page_told : (message : Message Fault) (result : Result (Unit {0}) KeepFault) (zo
     → OnOk result (TellsUnchanged zone closes message t before after)
     → IfRead message (λ caller query. OnOk result (after ≡ before
     ++ reply_text zone closes (Shows (page_by t caller query))))
-page_told (Order moment caller command) result zone closes t before after told = tt
+page_told (Write moment caller command) result zone closes t before after told = tt
 page_told (Read caller query) result zone closes t before after told = told
 page_told (Broken caller fault) result zone closes t before after told = tt
 
@@ -150,7 +150,7 @@ leads_on : (settings : Settings) (h : History) (moment caller : ℕ) (command : 
     (change : Change) (t : Tables) → t ≡ tables_of settings h
     → IsAccepted settings h moment caller command change
     → changed t change ≡ tables_of settings
-    (next {F = Fault} settings h (Order moment caller command))
+    (next {F = Fault} settings h (Write moment caller command))
 leads_on settings h moment caller command change t e is =
     ap (λ (x : Tables). changed x change) e ∙ is.leads
     ∙ ap (tables_of settings)
@@ -172,7 +172,7 @@ own_change : {K : Type 0} (content : K → Tables) (is_failed : K → Bool)
     (moment caller : ℕ) (command : Command) (change : Change) (old mid : K) (now : Tables)
     → IsReady content is_failed is_honest may_leave moment caller command change old mid
     → is_honest mid → now ≡ changed (content mid) change
-    → IsMade (Order moment caller command) (content old) now
+    → IsMade (Write moment caller command) (content old) now
 own_change content is_failed is_honest may_leave moment caller command change old mid now ready
     honest leads = (
       change,
@@ -201,7 +201,7 @@ pub acted_by_change : {K : Type 0} (content : K → Tables) (is_failed : K → B
     → (is_honest new → OnOk result (TellsResult zone closes (content mid) change before after))
     → OnErr result (after ≡ before)
     → IsApplied content is_failed is_honest may_leave change result mid new
-    → IsActed content is_failed is_honest may_leave zone closes (Order moment caller command) result
+    → IsActed content is_failed is_honest may_leave zone closes (Write moment caller command) result
     before after old new
 acted_by_change content is_failed is_honest may_leave zone closes moment caller command change
     (Ok u) before after old mid new ready value text told same applied = record {
@@ -286,10 +286,12 @@ acted_by_change content is_failed is_honest may_leave zone closes moment caller 
       undamaged = λ honest fit wrong.
           let b = applied.honest honest in
           let own = ready.own b in
-          let made = fit.1 change own in (
+          let made = fit.1 change own in
+          let fits = ready.fits b fit.0 made in (
             change,
             own,
-            λ free. applied.faults.damaged honest (rw (ready.same b) (ready.fits b fit.0 made))
+            fits,
+            λ free. applied.faults.damaged honest (rw (ready.same b) fits)
                 (rw (ready.same b) made) (rw (ready.same b) free) wrong,
           );
       honest = λ honest. ready.read.honest (applied.honest honest);

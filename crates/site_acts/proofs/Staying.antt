@@ -5,7 +5,7 @@ use Rattle.std.proofs.Math.Seq.{take-append_seam}
 use Rattle.house_rows.specs.declared.command.Command.{Command}
 use Rattle.house_rows.specs.declared.fault.KeepFault.{KeepFault}
 use Rattle.house_rows.specs.declared.fault.KeepFault.TheVariants.{Memory, Store, Damaged}
-use Rattle.house_rows.specs.declared.message.Message.TheVariants.{Order, Read}
+use Rattle.house_rows.specs.declared.message.Message.TheVariants.{Write, Read}
 use Rattle.house_rows.specs.declared.page.Page.{Page}
 use Rattle.house_rows.specs.declared.query.Query.{Query}
 use Rattle.house_rows.specs.declared.refusal.Refusal.{Refusal}
@@ -80,9 +80,9 @@ pub refused_reads : (result : Result (Unit {0}) KeepFault) (zone : Zone) (closes
     → verdict settings h moment caller command ≡ Some refusal
     → OnOk result (after ≡ before ++ reply_text zone closes (Denied refusal))
     → OnOk result ((after ≡ before
-    ++ reply_text zone closes (reply settings h (Order moment caller command)))
-    × (next {F = Fault} settings h (Order moment caller command) ≡ h)
-    × (is_entered settings h (Order moment caller command) ≡ false))
+    ++ reply_text zone closes (reply settings h (Write moment caller command)))
+    × (next {F = Fault} settings h (Write moment caller command) ≡ h)
+    × (is_entered settings h (Write moment caller command) ≡ false))
 refused_reads (Ok u) zone closes settings h moment caller command refusal before after refused
     text = (
       text ∙ ap (λ (r : Reply Fault). before ++ reply_text zone closes r)

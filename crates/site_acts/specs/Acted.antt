@@ -6,7 +6,7 @@ use Rattle.house_rows.specs.declared.change.Change.{Change}
 use Rattle.house_rows.specs.declared.fault.KeepFault.{KeepFault}
 use Rattle.house_rows.specs.declared.fault.KeepFault.TheVariants.{Store, Damaged}
 use Rattle.house_rows.specs.declared.message.Message.{Message}
-use Rattle.house_rows.specs.declared.message.Message.TheVariants.{Order, Read, Broken}
+use Rattle.house_rows.specs.declared.message.Message.TheVariants.{Write, Read, Broken}
 use Rattle.house_rows.specs.declared.query.Query.{Query}
 use Rattle.house_rows.specs.declared.refusal.Refusal.{Refusal}
 use Rattle.house_rows.specs.declared.reply.Reply.{Reply}
@@ -30,20 +30,20 @@ use Rattle.site_results.specs.ByTables.{IsResultBy}
 
 -- whether a message asks the keep for anything
 abbrev pub is_asking : Message Fault → Bool
-is_asking (Order moment caller command) = true
+is_asking (Write moment caller command) = true
 is_asking (Read caller query) = true
 is_asking (Broken caller fault) = false
 
 -- whether it is a command that is accepted
 abbrev pub is_entered : Settings → History → Message Fault → Bool
-is_entered settings h (Order moment caller command) =
+is_entered settings h (Write moment caller command) =
     is_none (verdict settings h moment caller command)
 is_entered settings h (Read caller query) = false
 is_entered settings h (Broken caller fault) = false
 
 -- the change is the message's own, and fits where the tables are sound; only a command has one
 abbrev pub IsOwn : Message Fault → Tables → Change → Type 0
-IsOwn (Order moment caller command) t change =
+IsOwn (Write moment caller command) t change =
     IsOf moment caller command change × (AreSound t → ChangeFits t change)
 IsOwn (Read caller query) t change = ⊥
 IsOwn (Broken caller fault) t change = ⊥
@@ -54,30 +54,23 @@ IsMade message t now = (change : Change) × IsOwn message t change × (now ≡ c
 
 -- a command whose own change fits, but whose new key is taken: in tables that belong to no history
 abbrev pub IsTaken : Tables → Message Fault → Type 0
-IsTaken t (Order moment caller command) =
+IsTaken t (Write moment caller command) =
     (change : Change) × IsOf moment caller command change × ChangeFits t change
     × ¬ (IsFree t change)
 IsTaken t (Read caller query) = ⊥
 IsTaken t (Broken caller fault) = ⊥
 
--- the new key of a command's own change is taken
-abbrev pub IsKeyTaken : Tables → Message Fault → Type 0
-IsKeyTaken t (Order moment caller command) =
-    (change : Change) × IsOf moment caller command change × ¬ (IsFree t change)
-IsKeyTaken t (Read caller query) = ⊥
-IsKeyTaken t (Broken caller fault) = ⊥
-
 -- the rows that a message takes fit: those that deciding on a command takes and those that making
 -- its own change does, and those that the page of a read takes
 abbrev pub MessageRowsFit : Tables → Message Fault → Type 0
-MessageRowsFit t (Order moment caller command) = CommandRowsFit t caller command
+MessageRowsFit t (Write moment caller command) = CommandRowsFit t caller command
     × ((change : Change) → IsOf moment caller command change → ChangeRowsFit t change)
 MessageRowsFit t (Read caller query) = PageRowsFit t caller query
 MessageRowsFit t (Broken caller fault) = Unit {0}
 
 -- of a read, what is said of its caller and its query
 abbrev pub IfRead : Message Fault → (ℕ → Query → Type 0) → Type 0
-IfRead (Order moment caller command) P = Unit {0}
+IfRead (Write moment caller command) P = Unit {0}
 IfRead (Read caller query) P = P caller query
 IfRead (Broken caller fault) P = Unit {0}
 
@@ -90,7 +83,7 @@ TellsResult zone closes t change before after =
 -- what is appended for a message that changes nothing: a command is refused, a read is shown the
 -- page of the tables, and any other message is told its fault
 abbrev pub TellsUnchanged : Zone → Bool → Message Fault → Tables → List ℕ → List ℕ → Type 0
-TellsUnchanged zone closes (Order moment caller command) t before after =
+TellsUnchanged zone closes (Write moment caller command) t before after =
     (refusal : Refusal) × (after ≡ before ++ reply_text zone closes (Denied refusal))
 TellsUnchanged zone closes (Read caller query) t before after =
     after ≡ before ++ reply_text zone closes (Shows (page_by t caller query))
@@ -143,7 +136,7 @@ pub record IsActed {K : Type 0} (content : K → Tables) (is_failed : K → Bool
       → IsTaken (content old) message
   -- nor is it over any tables in which the rows fit that the message takes
   pub undamaged : is_honest new → MessageRowsFit (content old) message → IsErrOf result Damaged
-      → IsKeyTaken (content old) message
+      → IsTaken (content old) message
   pub honest : is_honest new → is_honest old
   pub stays : is_failed old ≡ true → is_failed new ≡ true
   pub asleep : is_asking message ≡ false → new ≡ old

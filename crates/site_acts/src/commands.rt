@@ -1,9 +1,10 @@
 //! What a command does: the verdict, then the bytes of its answer, and the change last.
 ghost use Rattle.std.specs.Prelude.{◌≡◌, ◌++◌, false, OnErr, OnOk};
-ghost use Rattle.house_rows.specs.declared.message.Message.TheVariants.{Order};
+ghost use Rattle.house_rows.specs.Answers.{Reads};
+ghost use Rattle.house_rows.specs.declared.message.Message.TheVariants.{Write};
 ghost use Rattle.house_rows.specs.declared.reply.Reply.TheVariants.{Done};
 ghost use Rattle.house_rows.specs.Asks.{ChangeFits};
-ghost use Rattle.house_rows.specs.Keeping.{AreSound, Faults, IsRead};
+ghost use Rattle.house_rows.specs.Keeping.{AreSound, Faults};
 ghost use Rattle.house_rows.specs.Making.{ChangeRowsFit};
 ghost use Rattle.house_rows.specs.Taken.{IsUndamaged};
 ghost use Rattle.site_acts.specs.Acted.{IsActed, TellsResult};
@@ -17,7 +18,7 @@ use site_results::tell;
 
 /// Carries out a command, and appends the bytes of its answer. After an `Err` the buffer has what
 /// it had.
-pub(crate) fn order<K: Keep>(
+pub(crate) fn execute<K: Keep>(
     keep: &mut K,
     writer: &mut ReplyWriter,
     closes: bool,
@@ -27,7 +28,7 @@ pub(crate) fn order<K: Keep>(
     out: &mut Vec<u8>,
 ) -> Result<(), KeepFault>
     ensures acted { IsActed K.content K.is_failed K.is_honest K.may_leave writer.old.zone closes
-        (Order moment caller command.now) result out.old.items out.new.items keep.old keep.new }
+        (Write moment caller command.now) result out.old.items out.new.items keep.old keep.new }
     ensures zone { writer.new.zone ≡ writer.old.zone }
 {
     match decide(keep, moment, caller, command) {
@@ -95,7 +96,7 @@ fn foretell<K: Keep>(
         (K.content keep.old) }
     ensures damaged { K.is_honest keep.new
         → ChangeRowsFit (K.content keep.old) change.now → IsUndamaged result }
-    ensures read { IsRead K.content K.is_failed K.is_honest K.may_leave keep.old keep.new }
+    ensures read { Reads K.Keep keep.old keep.new }
     ensures zone { writer.new.zone ≡ writer.old.zone }
 {
     let report = tell(keep, change)?;

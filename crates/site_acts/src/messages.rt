@@ -2,7 +2,7 @@
 ghost use Rattle.std.specs.Prelude.{◌≡◌};
 ghost use Rattle.site_acts.specs.Acted.{IsActed};
 
-use crate::commands::order;
+use crate::commands::execute;
 use crate::reading::read;
 use house_rows::{Keep, KeepFault, Message};
 use site_replies::{ReplyRef, ReplyWriter};
@@ -22,11 +22,11 @@ pub fn act<K: Keep>(
     ensures zone { writer.new.zone ≡ writer.old.zone }
 {
     match &asked.message {
-        Message::Order {
+        Message::Write {
             moment,
             caller,
             command,
-        } => order(keep, writer, asked.closes, *moment, *caller, command, out),
+        } => execute(keep, writer, asked.closes, *moment, *caller, command, out),
         Message::Read { caller, query } => read(keep, writer, asked.closes, *caller, query, out),
         Message::Broken { fault, .. } => writer.write(asked.closes, ReplyRef::Faulty(*fault), out),
     }

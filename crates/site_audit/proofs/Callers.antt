@@ -2,7 +2,7 @@
 use Rattle.std.proofs.Common.{◌≡◌, ◌⊎◌, ◌∙◌, ℕ, List, Bool, true, false, refl, sym, ap, inl, inr, Option, None, Ok, Err}
 use Rattle.std.specs.Prelude.{◌↔◌, not}
 use Rattle.house_rows.specs.declared.message.Message.{Message}
-use Rattle.house_rows.specs.declared.message.Message.TheVariants.{Order, Read, Broken}
+use Rattle.house_rows.specs.declared.message.Message.TheVariants.{Write, Read, Broken}
 use Rattle.house_rows.specs.Runs.{is_caller, is_of}
 use Rattle.site.specs.Runs.{is_from}
 use Rattle.site_request.specs.Asked.{IsAsked, asked_of, caller_of}
@@ -39,7 +39,7 @@ broken_is_of text f is asked (frame, also, same) =
     (same ∙ ap asked_of (one_frame text frame (Err f) also is)) ∙ of_broken f)
 
 message_of_caller : (c : ℕ) (m : Message Fault) → is_caller (caller_of m) c ≡ is_of c m
-message_of_caller c (Order moment caller command) = refl
+message_of_caller c (Write moment caller command) = refl
 message_of_caller c (Read caller query) = refl
 message_of_caller c (Broken caller f) = refl
 

@@ -8,7 +8,7 @@ use Rattle.house_laws.specs.Covered.{IsCovered, IsCoveredBid, IsLedByBoth, Leads
 use Rattle.house_laws.proofs.CoveredLeads.{covered_led, led_covered}
 use Rattle.house_laws.proofs.CoveredRuns.{covered_twins, history_append, raised_is}
 use Rattle.house_rows.specs.declared.message.Message.{Message}
-use Rattle.house_rows.specs.declared.message.Message.TheVariants.{Order}
+use Rattle.house_rows.specs.declared.message.Message.TheVariants.{Write}
 use Rattle.house_rows.specs.declared.settings.Settings.{Settings}
 use Rattle.house_rows.specs.History.{History}
 use Rattle.house_rows.specs.Limits.{most_cents}
@@ -29,15 +29,15 @@ pub record LeadsBoth {A F : Type 0} (meant : A → Message F) (settings : Settin
 -- the commands of a history, the oldest first
 abbrev orders_of : (F : Type 0) → History → List (Message F)
 orders_of F [] = []
-orders_of F (e ∷ h) = orders_of F h ++ Order e.moment e.caller e.command ∷ []
+orders_of F (e ∷ h) = orders_of F h ++ Write e.moment e.caller e.command ∷ []
 
 -- they make it of a new house
 orders_make : (F : Type 0) (settings : Settings) (h : History) → IsHistory settings h
     → history_from settings [] (orders_of F h) ≡ h
 orders_make F settings [] is = refl
 orders_make F settings (e ∷ h) is =
-    history_more settings [] (orders_of F h) (Order e.moment e.caller e.command)
-    ∙ ap (λ g. next {F = F} settings g (Order e.moment e.caller e.command)) (orders_make F settings h is.1)
+    history_more settings [] (orders_of F h) (Write e.moment e.caller e.command)
+    ∙ ap (λ g. next {F = F} settings g (Write e.moment e.caller e.command)) (orders_make F settings h is.1)
     ∙ next_accepted F settings h e.moment e.caller e.command is.0
 
 -- a command of the history, or an element of the run

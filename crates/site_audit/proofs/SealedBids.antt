@@ -4,7 +4,7 @@ use Rattle.std.specs.List.{AllZip}
 use Rattle.house_laws.specs.Covered.{Sealed, bid_message, with_maximum}
 use Rattle.house_rows.specs.declared.command.Command.TheVariants.{Register, AddCategory, List as Listed, Bid, Buy, Close, Settle, Watch, Unwatch, Ask, Answer, Feedback, SetBands}
 use Rattle.house_rows.specs.declared.message.Message.{Message}
-use Rattle.house_rows.specs.declared.message.Message.TheVariants.{Order, Read, Broken}
+use Rattle.house_rows.specs.declared.message.Message.TheVariants.{Write, Read, Broken}
 use Rattle.site_request.specs.Asked.{IsAsked, asked_of}
 use Rattle.site_request.specs.declared.asked.Asked.{Asked}
 use Rattle.site_audit.specs.declared.fault.AuditFault.{AuditFault}
@@ -18,19 +18,19 @@ use Rattle.wire.proofs.SomeFrame.{some_frame}
 
 -- the bid of a message is the one that its message is made of
 sealed_is : {F : Type 0} (m : Message F) (b : Sealed) → Some b ≡ sealed_in m → m ≡ bid_message b
-sealed_is (Order t d (Bid i x)) b e = let same : b ≡ record { moment = t; member = d; item = i; maximum = x } = cc in rw same refl
-sealed_is (Order t d (Register name)) b e = cc
-sealed_is (Order t d (AddCategory name)) b e = cc
-sealed_is (Order t d (Listed category lot title text start buy_now end reserve)) b e = cc
-sealed_is (Order t d (Buy j)) b e = cc
-sealed_is (Order t d Close) b e = cc
-sealed_is (Order t d (Settle j)) b e = cc
-sealed_is (Order t d (Watch j)) b e = cc
-sealed_is (Order t d (Unwatch j)) b e = cc
-sealed_is (Order t d (Ask j text)) b e = cc
-sealed_is (Order t d (Answer j asker n text)) b e = cc
-sealed_is (Order t d (Feedback j rating text)) b e = cc
-sealed_is (Order t d (SetBands table)) b e = cc
+sealed_is (Write t d (Bid i x)) b e = let same : b ≡ record { moment = t; member = d; item = i; maximum = x } = cc in rw same refl
+sealed_is (Write t d (Register name)) b e = cc
+sealed_is (Write t d (AddCategory name)) b e = cc
+sealed_is (Write t d (Listed category lot title text start buy_now end reserve)) b e = cc
+sealed_is (Write t d (Buy j)) b e = cc
+sealed_is (Write t d Close) b e = cc
+sealed_is (Write t d (Settle j)) b e = cc
+sealed_is (Write t d (Watch j)) b e = cc
+sealed_is (Write t d (Unwatch j)) b e = cc
+sealed_is (Write t d (Ask j text)) b e = cc
+sealed_is (Write t d (Answer j asker n text)) b e = cc
+sealed_is (Write t d (Feedback j rating text)) b e = cc
+sealed_is (Write t d (SetBands table)) b e = cc
 sealed_is (Read d query) b e = cc
 sealed_is (Broken caller fault) b e = cc
 

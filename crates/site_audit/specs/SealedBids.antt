@@ -5,7 +5,7 @@ use Rattle.proxy.specs.Surplus.{Covers}
 use Rattle.house_laws.specs.Covered.{Sealed, bid_message, with_maximum}
 use Rattle.house_rows.specs.declared.command.Command.TheVariants.{Bid}
 use Rattle.house_rows.specs.declared.message.Message.{Message}
-use Rattle.house_rows.specs.declared.message.Message.TheVariants.{Order}
+use Rattle.house_rows.specs.declared.message.Message.TheVariants.{Write}
 use Rattle.house_rows.specs.Limits.{most_cents}
 use Rattle.site_bids.specs.Spelt.{IsSent, bid_text}
 use Rattle.site_audit.specs.declared.fault.AuditFault.{AuditFault}
@@ -14,7 +14,7 @@ use Rattle.site_audit.specs.Places.{Heard, IsHeard, heard_message}
 
 -- the bid of a message, if it is one
 abbrev pub sealed_in : {F : Type 0} → Message F → Option Sealed
-sealed_in (Order moment member (Bid item maximum)) =
+sealed_in (Write moment member (Bid item maximum)) =
     Some (record { moment = moment; member = member; item = item; maximum = maximum })
 sealed_in _ = None
 

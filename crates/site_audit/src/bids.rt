@@ -44,7 +44,7 @@ fn bid_in(message: &Message<Fault>) -> Option<SealedBid>
     ensures { result ≡ sealed_in message.now }
 {
     match message {
-        Message::Order {
+        Message::Write {
             moment,
             caller,
             command: Command::Bid { item, maximum },

@@ -3,9 +3,10 @@ ghost use Rattle.std.specs.Prelude.{◌≡◌, ◌≤◌, ◌↔◌, IfOk, IfSom
 ghost use Rattle.steps.specs.Table.{over};
 ghost use Rattle.proxy.specs.Surplus.{Covers};
 ghost use Rattle.house_laws.specs.Covered.{LeadsBy};
+ghost use Rattle.house_rows.specs.Answers.{Reads};
 ghost use Rattle.house_rows.specs.declared.settings.Settings.{Settings as TheSettings};
 ghost use Rattle.house_rows.specs.History.{History};
-ghost use Rattle.house_rows.specs.Keeping.{Faults, IsRead};
+ghost use Rattle.house_rows.specs.Keeping.{Faults};
 ghost use Rattle.house_rows.specs.Tables.{tables_of};
 ghost use Rattle.house_rows.specs.Verdict.{IsHistory};
 ghost use Rattle.site_audit.specs.Places.{IsSeen, IsUsed, keep_of};
@@ -83,7 +84,7 @@ fn leads_by<K: Keep>(keep: &mut K, bid: SealedBid, maximum: u64) -> Result<bool,
         ↔ LeadsBy settings h bid.item bid.member maximum) }
     ensures faults { Faults result (K.is_honest keep.new) (K.is_failed keep.new)
         (K.content keep.old) }
-    ensures read { IsRead K.content K.is_failed K.is_honest K.may_leave keep.old keep.new }
+    ensures read { Reads K.Keep keep.old keep.new }
 {
     let Some(standing) = keep.standing(bid.item)? else {
         return Ok(false);

@@ -14,11 +14,11 @@ use Rattle.matchit.specs.Router.{RouteOf}
 use Rattle.matchit.specs.Rows.{RowsOf, param_token}
 use Rattle.matchit.specs.Seek.{cuts, first, has_slash, longest_suffix, or_else, param_step, seek, segment, step, with_suffix}
 use Rattle.site_digits.specs.Digits.{number_in}
-use Rattle.site_request.specs.Numbers.{order_in}
+use Rattle.site_request.specs.Numbers.{command_path_in}
 use Rattle.site_request.specs.Routes.{path_in, route_at, route_of}
 use Rattle.site_request.specs.Segments.{number_at, segment_at, segments}
 use Rattle.site_request.specs.Table.{path_of, rows, table}
-use Rattle.site_request.specs.declared.order.Order.TheVariants as order
+use Rattle.site_request.specs.declared.command_path.CommandPath.TheVariants as command_path
 use Rattle.site_request.specs.declared.path.Path.{Path}
 use Rattle.site_request.specs.declared.path.Path.TheVariants.{Post}
 use Rattle.site_request.specs.declared.route.Route.TheVariants as route
@@ -104,7 +104,7 @@ is_found : is_some found ≡ true
 unfolding seek param_step rows table scan
 is_found = refl
 
-found_is : option_map (λ (r : RouteOf Path). r.value) found ≡ Some (Post (order.Bid 0))
+found_is : option_map (λ (r : RouteOf Path). r.value) found ≡ Some (Post (command_path.Bid 0))
 unfolding seek param_step rows table scan
 found_is = refl
 
@@ -120,7 +120,7 @@ to_the_end b ds none not =
 abbrev pub bid_target : List ℕ → List ℕ
 bid_target ds = codes "/items/" ++ ds ++ codes "/bids"
 
-target_path : (b : ℕ) (ds : List ℕ) → no_slash (b ∷ ds) → (256 == b) ≡ false → path_of (bid_target (b ∷ ds)) ≡ Some (Post (order.Bid 0))
+target_path : (b : ℕ) (ds : List ℕ) → no_slash (b ∷ ds) → (256 == b) ≡ false → path_of (bid_target (b ∷ ds)) ≡ Some (Post (command_path.Bid 0))
 unfolding path_of
 target_path b ds none not =
     let rest = ds ++ codes "/bids" in
@@ -148,7 +148,7 @@ target_number ds none =
 
 -- its route
 pub target_route : (b : ℕ) (ds : List ℕ) (i : ℕ) → no_slash (b ∷ ds) → (256 == b) ≡ false → is_utf8 (bid_target (b ∷ ds)) ≡ true → number_in (b ∷ ds) ≡ Some i
-    → route_of (codes "POST") (bid_target (b ∷ ds)) ≡ Ok (route.Order (order.Bid i))
-unfolding route_of path_in order_in
+    → route_of (codes "POST") (bid_target (b ∷ ds)) ≡ Ok (route.Post (command_path.Bid i))
+unfolding route_of path_in command_path_in
 target_route b ds i none not utf8 number =
     rw (utf8, target_path b ds none not, target_number (b ∷ ds) none, number) refl

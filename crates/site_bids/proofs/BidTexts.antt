@@ -18,7 +18,7 @@ use Rattle.json.specs.Print.{escape, escape_byte}
 use Rattle.serde_json.specs.Data.{no_members, number, put, unsigned}
 use Rattle.house_laws.specs.Covered.{Sealed, bid_message}
 use Rattle.house_rows.specs.declared.command.Command.TheVariants as bidding
-use Rattle.house_rows.specs.declared.message.Message.TheVariants.{Order}
+use Rattle.house_rows.specs.declared.message.Message.TheVariants.{Write}
 use Rattle.house_rows.specs.Limits.{last_moment}
 use Rattle.site_request.specs.Asked.{IsAsked, asked_of, asks_of, called, message_of, ordered}
 use Rattle.site_request.specs.declared.asked.Asked.{Asked}
@@ -31,7 +31,7 @@ use Rattle.site_bodies.proofs.Walked.{nothing_passed}
 use Rattle.site_request.specs.Commands.{bid_in, command_of, fields_in, object_at, or_no_object}
 use Rattle.site_request.specs.Fields.{◌>>=◌, number_at, or_wrong}
 use Rattle.site_request.specs.declared.field.Field.TheVariants as field
-use Rattle.site_request.specs.declared.order.Order.TheVariants as order
+use Rattle.site_request.specs.declared.command_path.CommandPath.TheVariants as command_path
 use Rattle.site_request.specs.Routes.{route_of}
 use Rattle.site_request.specs.declared.route.Route.TheVariants as route
 use Rattle.wire.specs.Fields.{Pair, body_length, has_host, has_transfer, length_by, values_of}
@@ -183,13 +183,13 @@ unfolding bid_body escape_byte
 body_lone y some few =
     whole_alone name (decimal y) (Some y) refl (ascii_of (codes "maximum") refl) refl refl refl (nothing_passed (decimal y ++ 125 ∷ [])) refl (sym (number_back y some few))
 
-commands : (i y : ℕ) → 1 ≤ y → y < 10 ^ 10 → command_of (order.Bid i) (bid_body y) ≡ Ok (bidding.Bid i y)
+commands : (i y : ℕ) → 1 ≤ y → y < 10 ^ 10 → command_of (command_path.Bid i) (bid_body y) ≡ Ok (bidding.Bid i y)
 unfolding command_of object_at fields_in bid_in number_at
 commands i y some few =
     rw (body_lone y some few, whole_lone (codes "maximum") y) refl
 
 -- its route, by the digits of the item
-routes : (item : List ℕ) (i : ℕ) → all_ascii_digits item ≡ true → 0 < length item → IsAscii item → number_in item ≡ Some i → route_of (codes "POST") (bid_target item) ≡ Ok (route.Order (order.Bid i))
+routes : (item : List ℕ) (i : ℕ) → all_ascii_digits item ≡ true → 0 < length item → IsAscii item → number_in item ≡ Some i → route_of (codes "POST") (bid_target item) ≡ Ok (route.Post (command_path.Bid i))
 routes [] i all some ascii report = absurd (omega (arith, some))
 routes (d ∷ ds) i all some ascii report =
     let first = both (is_ascii_digit d) (all_ascii_digits ds) all in
@@ -222,7 +222,7 @@ unfolding message_of asks_of called ordered
 means b sent =
     let i = b.item in
     let small : i < 2 ^ 64 = (let few = sent.item.1 in omega arith) in
-    let route : route_of (codes "POST") (bid_target (decimal i)) ≡ Ok (route.Order (order.Bid i)) =
+    let route : route_of (codes "POST") (bid_target (decimal i)) ≡ Ok (route.Post (command_path.Bid i)) =
     routes (decimal i) i (are_digits i small) (decimal_nonempty i small) (IsAscii-decimal i small) (number_back i sent.item.0 sent.item.1) in
     rw (callers b sent.member, route, times b sent.moment, commands i b.maximum sent.maximum.0 sent.maximum.1) refl
 

@@ -3,7 +3,7 @@ use Rattle.std.proofs.Common.{◌≡◌, ℕ, refl, Option, Some, None, Result, 
 use Rattle.std.specs.Prelude.{IfOk}
 use Rattle.house_rows.specs.declared.command.Command.{Command}
 use Rattle.house_rows.specs.declared.message.Message.{Message}
-use Rattle.house_rows.specs.declared.message.Message.TheVariants.{Order, Read}
+use Rattle.house_rows.specs.declared.message.Message.TheVariants.{Write, Read}
 use Rattle.house_rows.specs.declared.query.Query.{Query}
 use Rattle.site_request.specs.Commands.{command_of}
 use Rattle.site_request.specs.Fields.{◌>>=◌}
@@ -23,7 +23,7 @@ abbrev IsOf : Option ℕ → Result (Message Fault) Fault → Type 0
 IsOf caller asked = IfOk asked (λ message. caller_of message ≡ caller)
 
 order_is_of : (caller : ℕ) (moment : Result ℕ Fault) (command : Result Command Fault)
-    → IsOf (Some caller) (moment >>= (λ t. command >>= (λ k. Ok (Order t caller k))))
+    → IsOf (Some caller) (moment >>= (λ t. command >>= (λ k. Ok (Write t caller k))))
 order_is_of caller (Ok t) (Ok k) = refl
 order_is_of caller (Ok t) (Err f) = tt
 order_is_of caller (Err f) command = tt
@@ -34,8 +34,8 @@ read_is_of caller (Err f) = tt
 
 called_is_of : (caller : ℕ) (r : Route) (m : Framed) → IsOf (Some caller) (called caller r m)
 unfolding called ordered
-called_is_of caller (route.Order order) m =
-    order_is_of caller (or_fault fault.Moment (moment_in m)) (commanded (command_of order m.body))
+called_is_of caller (route.Post path) m =
+    order_is_of caller (or_fault fault.Moment (moment_in m)) (commanded (command_of path m.body))
 called_is_of caller (route.Read query) m = refl
 called_is_of caller (route.Statement from to) m = read_is_of caller (period_of from to)
 

@@ -2,12 +2,12 @@
 use Rattle.std.specs.Prelude.{◌≡◌, ℕ, List, Bool, true, Option, Some, None, Result, Ok, Err}
 use Rattle.house_rows.specs.declared.command.Command.{Command}
 use Rattle.house_rows.specs.declared.message.Message.{Message}
-use Rattle.house_rows.specs.declared.message.Message.TheVariants.{Order, Read, Broken}
+use Rattle.house_rows.specs.declared.message.Message.TheVariants.{Write, Read, Broken}
 use Rattle.site_request.specs.Commands.{command_of}
 use Rattle.site_request.specs.Fields.{◌>>=◌}
 use Rattle.site_request.specs.declared.unread.Wrong.{Wrong}
 use Rattle.site_request.specs.declared.unread.Wrong.TheVariants as wrong
-use Rattle.site_request.specs.declared.order.Order.{Order as TheOrder}
+use Rattle.site_request.specs.declared.command_path.CommandPath.{CommandPath}
 use Rattle.site_request.specs.Routes.{route_of}
 use Rattle.site_request.specs.declared.unrouted.RouteFault.{RouteFault}
 use Rattle.site_request.specs.declared.unrouted.RouteFault.TheVariants as unrouted
@@ -41,15 +41,15 @@ commanded (Err wrong.NoObject) = Err fault.Json
 commanded (Err (wrong.Field f)) = Err (fault.Field f)
 
 -- a command: its moment is judged, then its body
-unfoldable pub ordered : ℕ → TheOrder → Framed → Result (Message Fault) Fault
-ordered caller order m = do
+unfoldable pub ordered : ℕ → CommandPath → Framed → Result (Message Fault) Fault
+ordered caller path m = do
   moment ← or_fault fault.Moment (moment_in m)
-  command ← commanded (command_of order m.body)
-  Ok (Order moment caller command)
+  command ← commanded (command_of path m.body)
+  Ok (Write moment caller command)
 
 -- what a caller asks by a route
 unfoldable pub called : ℕ → Route → Framed → Result (Message Fault) Fault
-called caller (route.Order order) m = ordered caller order m
+called caller (route.Post path) m = ordered caller path m
 called caller (route.Read query) m = Ok (Read caller query)
 called caller (route.Statement from to) m = do
   query ← period_of from to
@@ -69,7 +69,7 @@ or_broken caller (Err f) = Broken caller f
 
 -- whether a message may ask for something, as far as can be said without its body
 abbrev pub may_ask : Message Fault → Bool
-may_ask (Order moment caller command) = true
+may_ask (Write moment caller command) = true
 may_ask (Read caller query) = true
 may_ask (Broken caller f) = is_of_body f
 
@@ -92,6 +92,6 @@ IsAsked text asked = (frame : Frame) × IsFrame text frame × (asked ≡ asked_o
 
 -- whose a message is, if it is anybody's
 abbrev pub caller_of : Message Fault → Option ℕ
-caller_of (Order moment caller command) = Some caller
+caller_of (Write moment caller command) = Some caller
 caller_of (Read caller query) = Some caller
 caller_of (Broken caller f) = caller

@@ -1,4 +1,4 @@
--- The command that an order means with a body. Start here: its fields are judged in the order in
+-- The command that a path means with a body. Start here: its fields are judged in the order in
 -- which they are written.
 use Rattle.std.specs.Prelude.{ℕ, List, Bool, true, false, if◌then◌else◌, Option, Some, None, Result, Ok, Err}
 use Rattle.serde_json.specs.Data.{Members, no_members}
@@ -9,8 +9,8 @@ use Rattle.site_request.specs.Fields.{◌>>=◌, integer_at, number_at, optional
 use Rattle.site_request.specs.declared.unread.Wrong.{Wrong}
 use Rattle.site_request.specs.declared.unread.Wrong.TheVariants.{NoObject}
 use Rattle.site_request.specs.declared.field.Field.TheVariants as field
-use Rattle.site_request.specs.declared.order.Order.{Order}
-use Rattle.site_request.specs.declared.order.Order.TheVariants as order
+use Rattle.site_request.specs.declared.command_path.CommandPath.{CommandPath}
+use Rattle.site_request.specs.declared.command_path.CommandPath.TheVariants as command_path
 
 unfoldable pub register_in : Members → Result Command Wrong
 register_in ms = do
@@ -61,29 +61,29 @@ table_in ms = do
   bands ← rows_at field.Bands ms
   Ok (command.SetBands bands)
 
--- the command of an order, by the object of its body
-unfoldable pub fields_in : Order → Members → Result Command Wrong
-fields_in order.Register ms = register_in ms
-fields_in order.AddCategory ms = category_in ms
-fields_in order.List ms = listing_in ms
-fields_in (order.Bid item) ms = bid_in item ms
-fields_in (order.Buy item) ms = Ok (command.Buy item)
-fields_in order.Close ms = Ok command.Close
-fields_in (order.Settle item) ms = Ok (command.Settle item)
-fields_in (order.Watch item) ms = Ok (command.Watch item)
-fields_in (order.Unwatch item) ms = Ok (command.Unwatch item)
-fields_in (order.Ask item) ms = question_in item ms
-fields_in (order.Answer item asker number) ms = answer_in item asker number ms
-fields_in (order.Feedback item) ms = feedback_in item ms
-fields_in order.SetBands ms = table_in ms
+-- the command of a path, by the object of its body
+unfoldable pub fields_in : CommandPath → Members → Result Command Wrong
+fields_in command_path.Register ms = register_in ms
+fields_in command_path.AddCategory ms = category_in ms
+fields_in command_path.List ms = listing_in ms
+fields_in (command_path.Bid item) ms = bid_in item ms
+fields_in (command_path.Buy item) ms = Ok (command.Buy item)
+fields_in command_path.Close ms = Ok command.Close
+fields_in (command_path.Settle item) ms = Ok (command.Settle item)
+fields_in (command_path.Watch item) ms = Ok (command.Watch item)
+fields_in (command_path.Unwatch item) ms = Ok (command.Unwatch item)
+fields_in (command_path.Ask item) ms = question_in item ms
+fields_in (command_path.Answer item asker number) ms = answer_in item asker number ms
+fields_in (command_path.Feedback item) ms = feedback_in item ms
+fields_in command_path.SetBands ms = table_in ms
 
--- whether an order has fields
-abbrev pub has_fields : Order → Bool
-has_fields (order.Buy item) = false
-has_fields order.Close = false
-has_fields (order.Settle item) = false
-has_fields (order.Watch item) = false
-has_fields (order.Unwatch item) = false
+-- whether the command of a path has fields
+abbrev pub has_fields : CommandPath → Bool
+has_fields (command_path.Buy item) = false
+has_fields command_path.Close = false
+has_fields (command_path.Settle item) = false
+has_fields (command_path.Watch item) = false
+has_fields (command_path.Unwatch item) = false
 has_fields _ = true
 
 -- the object of a body
@@ -94,14 +94,14 @@ or_no_object (Some ms) = Ok ms
 unfoldable pub object_at : List ℕ → Result Members Wrong
 object_at body = or_no_object (body_of body)
 
--- the command that an order means with a body; where it has no fields, nobody looks at the body
-unfoldable pub command_of : Order → List ℕ → Result Command Wrong
+-- the command that a path means with a body; where it has no fields, nobody looks at the body
+unfoldable pub command_of : CommandPath → List ℕ → Result Command Wrong
 command_of order body = if has_fields order then object_at body >>= fields_in order else fields_in order no_members
 
--- the command of an order whose one field is a text
-abbrev pub text_in : Order → List ℕ → Option Command
-text_in order.Register text = Some (command.Register text)
-text_in order.AddCategory text = Some (command.AddCategory text)
-text_in (order.Ask item) text = Some (command.Ask item text)
-text_in (order.Answer item asker number) text = Some (command.Answer item asker number text)
+-- the command of a path whose one field is a text
+abbrev pub text_in : CommandPath → List ℕ → Option Command
+text_in command_path.Register text = Some (command.Register text)
+text_in command_path.AddCategory text = Some (command.AddCategory text)
+text_in (command_path.Ask item) text = Some (command.Ask item text)
+text_in (command_path.Answer item asker number) text = Some (command.Answer item asker number text)
 text_in _ text = None

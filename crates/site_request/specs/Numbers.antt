@@ -2,12 +2,12 @@
 use Rattle.std.specs.Prelude.{ℕ, List, Option, Some, None}
 use Rattle.house_rows.specs.declared.query.Query.TheVariants as query
 use Rattle.site_request.specs.Segments.{number_at, segment_at}
-use Rattle.site_request.specs.declared.order.Order.{Order as TheOrder}
-use Rattle.site_request.specs.declared.order.Order.TheVariants as order
+use Rattle.site_request.specs.declared.command_path.CommandPath.{CommandPath}
+use Rattle.site_request.specs.declared.command_path.CommandPath.TheVariants as command_path
 use Rattle.site_request.specs.declared.path.Read.{Read as TheRead}
 use Rattle.site_request.specs.declared.path.Read.TheVariants as read
 use Rattle.site_request.specs.declared.route.Route.{Route}
-use Rattle.site_request.specs.declared.route.Route.TheVariants.{Order, Read, Statement}
+use Rattle.site_request.specs.declared.route.Route.TheVariants.{Post, Read, Statement}
 
 infixl 10 ◌>>=◌
 abbrev pub ◌>>=◌ : {A B : Type 0} → Option A → (A → Option B) → Option B
@@ -15,38 +15,38 @@ None >>= f = None
 (Some x) >>= f = f x
 
 -- the route of a command's path; none where no number is in the place of one
-unfoldable pub order_in : TheOrder → List ℕ → Option Route
-order_in order.Register target = Some (Order order.Register)
-order_in order.AddCategory target = Some (Order order.AddCategory)
-order_in order.List target = Some (Order order.List)
-order_in (order.Bid _) target = do
+unfoldable pub command_path_in : CommandPath → List ℕ → Option Route
+command_path_in command_path.Register target = Some (Post command_path.Register)
+command_path_in command_path.AddCategory target = Some (Post command_path.AddCategory)
+command_path_in command_path.List target = Some (Post command_path.List)
+command_path_in (command_path.Bid _) target = do
   item ← number_at 2 target
-  Some (Order (order.Bid item))
-order_in (order.Buy _) target = do
+  Some (Post (command_path.Bid item))
+command_path_in (command_path.Buy _) target = do
   item ← number_at 2 target
-  Some (Order (order.Buy item))
-order_in order.Close target = Some (Order order.Close)
-order_in (order.Settle _) target = do
+  Some (Post (command_path.Buy item))
+command_path_in command_path.Close target = Some (Post command_path.Close)
+command_path_in (command_path.Settle _) target = do
   item ← number_at 2 target
-  Some (Order (order.Settle item))
-order_in (order.Watch _) target = do
+  Some (Post (command_path.Settle item))
+command_path_in (command_path.Watch _) target = do
   item ← number_at 2 target
-  Some (Order (order.Watch item))
-order_in (order.Unwatch _) target = do
+  Some (Post (command_path.Watch item))
+command_path_in (command_path.Unwatch _) target = do
   item ← number_at 2 target
-  Some (Order (order.Unwatch item))
-order_in (order.Ask _) target = do
+  Some (Post (command_path.Unwatch item))
+command_path_in (command_path.Ask _) target = do
   item ← number_at 2 target
-  Some (Order (order.Ask item))
-order_in (order.Answer _ _ _) target = do
+  Some (Post (command_path.Ask item))
+command_path_in (command_path.Answer _ _ _) target = do
   item ← number_at 2 target
   asker ← number_at 4 target
   number ← number_at 5 target
-  Some (Order (order.Answer item asker number))
-order_in (order.Feedback _) target = do
+  Some (Post (command_path.Answer item asker number))
+command_path_in (command_path.Feedback _) target = do
   item ← number_at 2 target
-  Some (Order (order.Feedback item))
-order_in order.SetBands target = Some (Order order.SetBands)
+  Some (Post (command_path.Feedback item))
+command_path_in command_path.SetBands target = Some (Post command_path.SetBands)
 
 -- the route of a read's path; none where no number is in the place of one
 unfoldable pub read_in : TheRead → List ℕ → Option Route

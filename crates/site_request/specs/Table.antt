@@ -6,27 +6,27 @@ use Rattle.matchit.specs.Route.{Scan, parse_route}
 use Rattle.matchit.specs.Router.{RouteOf, route_from}
 use Rattle.matchit.specs.Seek.{first}
 use Rattle.matchit.specs.declared.error.InsertError.{InsertError}
-use Rattle.site_request.specs.declared.order.Order.TheVariants as order
+use Rattle.site_request.specs.declared.command_path.CommandPath.TheVariants as command_path
 use Rattle.site_request.specs.declared.path.Path.{Path}
 use Rattle.site_request.specs.declared.path.Path.TheVariants.{Get, Post, Categories, Bands}
 use Rattle.site_request.specs.declared.path.Read.TheVariants as read
 
--- the patterns, and for what each path is, with 0 for each number of an order; what is in braces
+-- the patterns, and for what each path is, with 0 for each number of a path; what is in braces
 -- fits any segment
 unfoldable pub table : List (List ℕ × Path)
 table =
-    (codes "/members", Post order.Register)
+    (codes "/members", Post command_path.Register)
     ∷ (codes "/categories", Categories)
-    ∷ (codes "/items", Post order.List)
-    ∷ (codes "/items/{item}/bids", Post (order.Bid 0))
-    ∷ (codes "/items/{item}/purchase", Post (order.Buy 0))
-    ∷ (codes "/close", Post order.Close)
-    ∷ (codes "/items/{item}/settle", Post (order.Settle 0))
-    ∷ (codes "/items/{item}/watch", Post (order.Watch 0))
-    ∷ (codes "/items/{item}/unwatch", Post (order.Unwatch 0))
-    ∷ (codes "/items/{item}/questions", Post (order.Ask 0))
-    ∷ (codes "/items/{item}/questions/{asker}/{number}/answer", Post (order.Answer 0 0 0))
-    ∷ (codes "/items/{item}/feedback", Post (order.Feedback 0))
+    ∷ (codes "/items", Post command_path.List)
+    ∷ (codes "/items/{item}/bids", Post (command_path.Bid 0))
+    ∷ (codes "/items/{item}/purchase", Post (command_path.Buy 0))
+    ∷ (codes "/close", Post command_path.Close)
+    ∷ (codes "/items/{item}/settle", Post (command_path.Settle 0))
+    ∷ (codes "/items/{item}/watch", Post (command_path.Watch 0))
+    ∷ (codes "/items/{item}/unwatch", Post (command_path.Unwatch 0))
+    ∷ (codes "/items/{item}/questions", Post (command_path.Ask 0))
+    ∷ (codes "/items/{item}/questions/{asker}/{number}/answer", Post (command_path.Answer 0 0 0))
+    ∷ (codes "/items/{item}/feedback", Post (command_path.Feedback 0))
     ∷ (codes "/house", Get read.House)
     ∷ (codes "/bands", Bands)
     ∷ (codes "/bands/{edition}", Get read.BandsOf)

@@ -3,12 +3,12 @@ ghost use Rattle.std.specs.Prelude.{◌≡◌, ◌≢◌, false, true, Ok, Some,
 ghost use Rattle.serde_json.specs.Data.{no_members};
 ghost use Rattle.site_bodies.specs.Body.{fields_of};
 ghost use Rattle.site_request.specs.Fields.{Gives};
-ghost use Rattle.site_request.specs.declared.order.Order.TheVariants as the_order;
+ghost use Rattle.site_request.specs.declared.command_path.CommandPath.TheVariants as the_path;
 ghost use Rattle.site_request.specs.Commands.{answer_in, bid_in, category_in, command_of, feedback_in, fields_in, has_fields, listing_in, question_in, register_in, text_in};
 
+use crate::command_path::CommandPath;
 use crate::field::Field;
 use crate::fields::{integer, number, optional, rating_of, text};
-use crate::order::Order;
 use crate::unread::{Unread, Wrong};
 use house_rows::{Command, Rows, Text};
 use json::Scratch;
@@ -106,7 +106,7 @@ fn feedback(alloc: Global, body: &Body<'_>, item: u64) -> Result<Command, Unread
 // A new band table, by its rows.
 #[tactic(auto, using(crate::proofs::TableBodies::rows_given, crate::proofs::TableBodies::no_rows, crate::proofs::TableBodies::no_object))]
 fn set_bands(alloc: Global, bytes: &[u8]) -> Result<Command, Unread>
-    ensures { Gives result (command_of the_order.SetBands bytes.now) }
+    ensures { Gives result (command_of the_path.SetBands bytes.now) }
 {
     match read_pairs(alloc, bytes, Field::Bands.name(), "at", "step") {
         Ok(Some(rows)) => Ok(Command::SetBands {
@@ -118,67 +118,67 @@ fn set_bands(alloc: Global, bytes: &[u8]) -> Result<Command, Unread>
     }
 }
 
-// The command of an order that has fields, each with nothing inside.
+// The command of a path that has fields, each with nothing inside.
 #[tactic(auto, unfolding(crate::specs::Commands::fields_in))]
-fn with_fields(alloc: Global, order: Order, body: &Body<'_>) -> Result<Command, Unread>
-    requires fields { has_fields order ≡ true }
-    requires plain { order ≢ the_order.SetBands }
-    ensures { Gives result (fields_in order (fields_of body.now)) }
+fn with_fields(alloc: Global, path: CommandPath, body: &Body<'_>) -> Result<Command, Unread>
+    requires fields { has_fields path ≡ true }
+    requires plain { path ≢ the_path.SetBands }
+    ensures { Gives result (fields_in path (fields_of body.now)) }
 {
-    match order {
-        Order::Register => register(alloc, body),
-        Order::AddCategory => add_category(alloc, body),
-        Order::List => list(alloc, body),
-        Order::Bid { item } => bid(body, item),
-        Order::Ask { item } => ask(alloc, body, item),
-        Order::Answer {
+    match path {
+        CommandPath::Register => register(alloc, body),
+        CommandPath::AddCategory => add_category(alloc, body),
+        CommandPath::List => list(alloc, body),
+        CommandPath::Bid { item } => bid(body, item),
+        CommandPath::Ask { item } => ask(alloc, body, item),
+        CommandPath::Answer {
             item,
             asker,
             number,
         } => answer(alloc, body, item, asker, number),
-        Order::Feedback { item } => feedback(alloc, body, item),
+        CommandPath::Feedback { item } => feedback(alloc, body, item),
         _ => unreachable!(),
     }
 }
 
-// The command of an order without fields; none where the order has some.
+// The command of a path without fields; none where the path has some.
 #[tactic(auto, unfolding(crate::specs::Commands::fields_in))]
-fn without_fields(order: Order) -> Option<Command>
-    ensures { MatchOption result (has_fields order ≡ true)
-        (λ command. (has_fields order ≡ false) × (Ok command ≡ fields_in order no_members)) }
+fn without_fields(path: CommandPath) -> Option<Command>
+    ensures { MatchOption result (has_fields path ≡ true)
+        (λ command. (has_fields path ≡ false) × (Ok command ≡ fields_in path no_members)) }
 {
-    match order {
-        Order::Buy { item } => Some(Command::Buy { item }),
-        Order::Close => Some(Command::Close),
-        Order::Settle { item } => Some(Command::Settle { item }),
-        Order::Watch { item } => Some(Command::Watch { item }),
-        Order::Unwatch { item } => Some(Command::Unwatch { item }),
+    match path {
+        CommandPath::Buy { item } => Some(Command::Buy { item }),
+        CommandPath::Close => Some(Command::Close),
+        CommandPath::Settle { item } => Some(Command::Settle { item }),
+        CommandPath::Watch { item } => Some(Command::Watch { item }),
+        CommandPath::Unwatch { item } => Some(Command::Unwatch { item }),
         _ => None,
     }
 }
 
-// The text of a body that is its order's one text alone, as most are.
-fn lone_field(order: Order, bytes: &[u8]) -> Option<&str>
-    ensures { IfSome result (λ text. option_map Ok (text_in order text.now) ≡ Some (command_of order bytes.now)) }
+// The text of a body that is its command's one text alone, as most are.
+fn lone_field(path: CommandPath, bytes: &[u8]) -> Option<&str>
+    ensures { IfSome result (λ text. option_map Ok (text_in path text.now) ≡ Some (command_of path bytes.now)) }
 {
-    match order {
-        Order::Register => lone_text(bytes, "name"),
-        Order::AddCategory => lone_text(bytes, "name"),
-        Order::Ask { .. } => lone_text(bytes, "text"),
-        Order::Answer { .. } => lone_text(bytes, "text"),
+    match path {
+        CommandPath::Register => lone_text(bytes, "name"),
+        CommandPath::AddCategory => lone_text(bytes, "name"),
+        CommandPath::Ask { .. } => lone_text(bytes, "text"),
+        CommandPath::Answer { .. } => lone_text(bytes, "text"),
         _ => None,
     }
 }
 
-// The command of an order whose one field is a text.
-fn of_text(order: Order, text: Text) -> Option<Command>
-    ensures { result ≡ text_in order text }
+// The command of a path whose one field is a text.
+fn of_text(path: CommandPath, text: Text) -> Option<Command>
+    ensures { result ≡ text_in path text }
 {
-    match order {
-        Order::Register => Some(Command::Register { name: text }),
-        Order::AddCategory => Some(Command::AddCategory { name: text }),
-        Order::Ask { item } => Some(Command::Ask { item, text }),
-        Order::Answer {
+    match path {
+        CommandPath::Register => Some(Command::Register { name: text }),
+        CommandPath::AddCategory => Some(Command::AddCategory { name: text }),
+        CommandPath::Ask { item } => Some(Command::Ask { item, text }),
+        CommandPath::Answer {
             item,
             asker,
             number,
@@ -193,39 +193,39 @@ fn of_text(order: Order, text: Text) -> Option<Command>
 }
 
 // The command of a body that is its one field alone. Where there is none, the body is read in full.
-fn plain(alloc: Global, order: Order, bytes: &[u8]) -> Result<Option<Command>, Unread>
-    ensures report { IfOk result (λ found. IfSome found (λ command. command_of order bytes.now ≡ Ok command)) }
+fn plain(alloc: Global, path: CommandPath, bytes: &[u8]) -> Result<Option<Command>, Unread>
+    ensures report { IfOk result (λ found. IfSome found (λ command. command_of path bytes.now ≡ Ok command)) }
     ensures memory { IfErr result (λ unread. unread ≡ Unread.Memory) }
 {
-    if let Order::Bid { item } = order {
+    if let CommandPath::Bid { item } = path {
         return match lone_whole(bytes, "maximum") {
             Some(maximum) => Ok(Some(Command::Bid { item, maximum })),
             None => Ok(None),
         };
     }
-    match lone_field(order, bytes) {
-        Some(text) => Ok(of_text(order, Text::copy_of(alloc, text)?)),
+    match lone_field(path, bytes) {
+        Some(text) => Ok(of_text(path, Text::copy_of(alloc, text)?)),
         None => Ok(None),
     }
 }
 
-/// The command that an order means with a body.
+/// The command that a path means with a body.
 #[tactic(auto, unfolding(crate::specs::Commands::command_of, crate::specs::Commands::object_at))]
 pub fn command(
     alloc: Global,
-    order: Order,
+    path: CommandPath,
     bytes: &[u8],
     scratch: &mut Scratch,
 ) -> Result<Command, Unread>
-    ensures { Gives result (command_of order bytes.now) }
+    ensures { Gives result (command_of path bytes.now) }
 {
-    if let Some(command) = without_fields(order) {
+    if let Some(command) = without_fields(path) {
         return Ok(command);
     }
-    if matches!(order, Order::SetBands) {
+    if matches!(path, CommandPath::SetBands) {
         return set_bands(alloc, bytes);
     }
-    if let Some(command) = plain(alloc, order, bytes)? {
+    if let Some(command) = plain(alloc, path, bytes)? {
         return Ok(command);
     }
     let body = match Body::read(alloc, bytes, scratch) {
@@ -233,5 +233,5 @@ pub fn command(
         Err(BodyFault::NoObject) => return Err(Unread::Wrong(Wrong::NoObject)),
         Err(BodyFault::Memory) => return Err(Unread::Memory),
     };
-    with_fields(alloc, order, &body)
+    with_fields(alloc, path, &body)
 }

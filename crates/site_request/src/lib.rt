@@ -9,13 +9,13 @@
 #![tactic(auto)]
 
 mod asked;
+mod command_path;
 mod commands;
 mod days;
 mod fault;
 mod field;
 mod fields;
 mod laws;
-mod order;
 mod path;
 mod reading;
 mod route;
@@ -26,6 +26,7 @@ mod unread;
 mod unrouted;
 
 pub use asked::{Asked, NoMemory};
+pub use command_path::CommandPath;
 pub use commands::command;
 pub use fault::Fault;
 pub use field::Field;
@@ -33,7 +34,6 @@ pub use laws::{
     every_text_has_a_meaning, messages_are_their_callers, no_target_fits_two_patterns,
     texts_have_one_meaning,
 };
-pub use order::Order;
 pub use reading::{read, read_request};
 pub use route::Route;
 pub use routes::Routes;

@@ -1,12 +1,12 @@
 //! The paths of the house.
-use crate::order::Order;
+use crate::command_path::CommandPath;
 
-/// A path of the house, by its methods: GET for a read, POST for a command, or both. An order has 0
+/// A path of the house, by its methods: GET for a read, POST for a command, or both. A command has 0
 /// in place of each number, which a target gives.
 #[derive(Clone, Copy)]
 pub(crate) enum Path {
     Get(Read),
-    Post(Order),
+    Post(CommandPath),
     Categories,
     Bands,
 }

@@ -6,10 +6,10 @@ ghost use Rattle.site_request.specs.Reading.{IsRead, IsReadAs, IsRequestRead};
 ghost use Rattle.site_request.specs.Heads.{moment_in, numbered};
 
 use crate::asked::{Asked, NoMemory};
+use crate::command_path::CommandPath;
 use crate::commands::command;
 use crate::days::period;
 use crate::fault::Fault;
-use crate::order::Order;
 use crate::route::Route;
 use crate::routes::Routes;
 use crate::unread::{Unread, Wrong};
@@ -43,23 +43,23 @@ fn read_page(closes: bool, caller: u64, query: Query) -> Result<Asked, NoMemory>
 
 // What a command of a caller asks.
 #[tactic(auto, unfolding(crate::specs::Asked::ordered))]
-fn read_order(
+fn read_command(
     alloc: Global,
     closes: bool,
     caller: u64,
-    order: Order,
+    path: CommandPath,
     request: &Request<'_>,
     scratch: &mut Scratch,
 ) -> Result<Asked, NoMemory>
-    ensures { IsReadAs closes (Some caller) (ordered caller order request.now) result }
+    ensures { IsReadAs closes (Some caller) (ordered caller path request.now) result }
 {
     let Some(moment) = moment(request) else {
         return broken(closes, Some(caller), Fault::Moment);
     };
-    match command(alloc, order, request.body(), scratch) {
+    match command(alloc, path, request.body(), scratch) {
         Ok(command) => Ok(Asked {
             closes,
-            message: Message::Order {
+            message: Message::Write {
                 moment,
                 caller,
                 command,
@@ -97,7 +97,7 @@ fn asks(
         return broken(closes, None, Fault::Member);
     };
     match route {
-        Route::Order(order) => read_order(alloc, closes, caller, order, request, scratch),
+        Route::Post(path) => read_command(alloc, closes, caller, path, request, scratch),
         Route::Read(query) => read_page(closes, caller, query),
         Route::Statement { from, to } => match period(from.bytes(), to.bytes()) {
             Ok(query) => read_page(closes, caller, query),

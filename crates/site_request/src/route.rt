@@ -1,5 +1,5 @@
 //! What a message asks for, as far as its method and its target say.
-use crate::order::Order;
+use crate::command_path::CommandPath;
 use crate::segment::Segment;
 use house_rows::Query;
 
@@ -8,7 +8,7 @@ use house_rows::Query;
 #[derive(Drop)]
 pub enum Route<'t> {
     /// A command, whose fields are in the body.
-    Order(Order),
+    Post(CommandPath),
     /// A read.
     Read(Query),
     /// The statement of the caller's sales and purchases in a period, whose days aren't judged yet.

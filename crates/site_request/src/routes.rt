@@ -2,9 +2,9 @@
 ghost use Rattle.std.specs.Prelude.{◌≡◌};
 ghost use Rattle.site_request.specs.Routes.{by_both, by_method, path_in, route_of};
 ghost use Rattle.site_request.specs.Table.{rows};
-ghost use Rattle.site_request.specs.Numbers.{order_in, read_in};
+ghost use Rattle.site_request.specs.Numbers.{command_path_in, read_in};
 
-use crate::order::Order;
+use crate::command_path::CommandPath;
 use crate::path::{Path, Read};
 use crate::route::Route;
 use crate::segment::{number_at, segment_at};
@@ -46,17 +46,13 @@ fn by_method<'t>(
 }
 
 // The route of a path with both methods.
-fn by_both<'t>(query: Query, order: Order, method: &[u8]) -> Result<Route<'t>, RouteFault>
-    ensures { result ≡ by_both query order method.now }
+fn by_both<'t>(query: Query, path: CommandPath, method: &[u8]) -> Result<Route<'t>, RouteFault>
+    ensures { result ≡ by_both query path method.now }
 {
     if method == GET {
         Ok(Route::Read(query))
     } else {
-        by_method(
-            Some(Route::Order(order)),
-            method == POST,
-            Methods::GetAndPost,
-        )
+        by_method(Some(Route::Post(path)), method == POST, Methods::GetAndPost)
     }
 }
 
@@ -91,52 +87,52 @@ impl Routes {
         match self.path_in(target) {
             None => Err(RouteFault::Path),
             Some(Path::Get(read)) => by_method(read_in(read, target), method == GET, Methods::Get),
-            Some(Path::Post(order)) => {
-                by_method(order_in(order, target), method == POST, Methods::Post)
+            Some(Path::Post(path)) => {
+                by_method(command_path_in(path, target), method == POST, Methods::Post)
             }
-            Some(Path::Categories) => by_both(Query::Categories, Order::AddCategory, method),
-            Some(Path::Bands) => by_both(Query::Bands, Order::SetBands, method),
+            Some(Path::Categories) => by_both(Query::Categories, CommandPath::AddCategory, method),
+            Some(Path::Bands) => by_both(Query::Bands, CommandPath::SetBands, method),
         }
     }
 }
 
 /// The route of a command's path, if the target has a number in the place of each.
-#[tactic(auto, unfolding(crate::specs::Numbers::order_in))]
-pub(crate) fn order_in(order: Order, target: &[u8]) -> Option<Route<'_>>
-    ensures { result ≡ order_in order target.now }
+#[tactic(auto, unfolding(crate::specs::Numbers::command_path_in))]
+pub(crate) fn command_path_in(path: CommandPath, target: &[u8]) -> Option<Route<'_>>
+    ensures { result ≡ command_path_in path target.now }
 {
-    Some(Route::Order(match order {
-        Order::Register => Order::Register,
-        Order::AddCategory => Order::AddCategory,
-        Order::List => Order::List,
-        Order::Bid { .. } => Order::Bid {
+    Some(Route::Post(match path {
+        CommandPath::Register => CommandPath::Register,
+        CommandPath::AddCategory => CommandPath::AddCategory,
+        CommandPath::List => CommandPath::List,
+        CommandPath::Bid { .. } => CommandPath::Bid {
             item: number_at(target, 2)?,
         },
-        Order::Buy { .. } => Order::Buy {
+        CommandPath::Buy { .. } => CommandPath::Buy {
             item: number_at(target, 2)?,
         },
-        Order::Close => Order::Close,
-        Order::Settle { .. } => Order::Settle {
+        CommandPath::Close => CommandPath::Close,
+        CommandPath::Settle { .. } => CommandPath::Settle {
             item: number_at(target, 2)?,
         },
-        Order::Watch { .. } => Order::Watch {
+        CommandPath::Watch { .. } => CommandPath::Watch {
             item: number_at(target, 2)?,
         },
-        Order::Unwatch { .. } => Order::Unwatch {
+        CommandPath::Unwatch { .. } => CommandPath::Unwatch {
             item: number_at(target, 2)?,
         },
-        Order::Ask { .. } => Order::Ask {
+        CommandPath::Ask { .. } => CommandPath::Ask {
             item: number_at(target, 2)?,
         },
-        Order::Answer { .. } => Order::Answer {
+        CommandPath::Answer { .. } => CommandPath::Answer {
             item: number_at(target, 2)?,
             asker: number_at(target, 4)?,
             number: number_at(target, 5)?,
         },
-        Order::Feedback { .. } => Order::Feedback {
+        CommandPath::Feedback { .. } => CommandPath::Feedback {
             item: number_at(target, 2)?,
         },
-        Order::SetBands => Order::SetBands,
+        CommandPath::SetBands => CommandPath::SetBands,
     }))
 }
 

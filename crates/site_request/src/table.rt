@@ -2,32 +2,44 @@
 ghost use Rattle.std.specs.Prelude.{◌≡◌, IfOk, OnOk, map};
 ghost use Rattle.site_request.specs.Table.{added, added_one, rows};
 
-use crate::order::Order;
+use crate::command_path::CommandPath;
 use crate::path::Path::{self, Bands, Categories, Get, Post};
 use crate::path::Read;
 use matchit::{InsertError, Router};
 use std::alloc::Global;
 
 static TABLE: [(&str, Path); 26] = [
-    ("/members", Post(Order::Register)),
+    ("/members", Post(CommandPath::Register)),
     ("/categories", Categories),
-    ("/items", Post(Order::List)),
-    ("/items/{item}/bids", Post(Order::Bid { item: 0 })),
-    ("/items/{item}/purchase", Post(Order::Buy { item: 0 })),
-    ("/close", Post(Order::Close)),
-    ("/items/{item}/settle", Post(Order::Settle { item: 0 })),
-    ("/items/{item}/watch", Post(Order::Watch { item: 0 })),
-    ("/items/{item}/unwatch", Post(Order::Unwatch { item: 0 })),
-    ("/items/{item}/questions", Post(Order::Ask { item: 0 })),
+    ("/items", Post(CommandPath::List)),
+    ("/items/{item}/bids", Post(CommandPath::Bid { item: 0 })),
+    ("/items/{item}/purchase", Post(CommandPath::Buy { item: 0 })),
+    ("/close", Post(CommandPath::Close)),
+    (
+        "/items/{item}/settle",
+        Post(CommandPath::Settle { item: 0 }),
+    ),
+    ("/items/{item}/watch", Post(CommandPath::Watch { item: 0 })),
+    (
+        "/items/{item}/unwatch",
+        Post(CommandPath::Unwatch { item: 0 }),
+    ),
+    (
+        "/items/{item}/questions",
+        Post(CommandPath::Ask { item: 0 }),
+    ),
     (
         "/items/{item}/questions/{asker}/{number}/answer",
-        Post(Order::Answer {
+        Post(CommandPath::Answer {
             item: 0,
             asker: 0,
             number: 0,
         }),
     ),
-    ("/items/{item}/feedback", Post(Order::Feedback { item: 0 })),
+    (
+        "/items/{item}/feedback",
+        Post(CommandPath::Feedback { item: 0 }),
+    ),
     ("/house", Get(Read::House)),
     ("/bands", Bands),
     ("/bands/{edition}", Get(Read::BandsOf)),

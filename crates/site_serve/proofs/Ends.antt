@@ -9,7 +9,7 @@ use Rattle.std.proofs.Math.Seq.{take-append-add}
 use Rattle.device.specs.Given.{AppendsBeginning}
 use Rattle.house_rows.specs.declared.command.Command.{Command}
 use Rattle.house_rows.specs.declared.message.Message.{Message as Meant}
-use Rattle.house_rows.specs.declared.message.Message.TheVariants.{Order, Read, Broken}
+use Rattle.house_rows.specs.declared.message.Message.TheVariants.{Write, Read, Broken}
 use Rattle.house_rows.specs.declared.refusal.Refusal.{Refusal}
 use Rattle.house_rows.specs.declared.settings.Settings.{Settings}
 use Rattle.house_rows.specs.History.{History}
@@ -36,7 +36,7 @@ use Rattle.site_serve.specs.Ends.{HasEnded, HasFailed, IsKept}
 use Rattle.site_serve.specs.Lives.{HasLived, LeavesLives}
 use Rattle.site_serve.specs.Serving.{fault_bytes, heard, rest_bytes}
 use Rattle.site_serve.specs.declared.server.ServeFault.{ServeFault}
-use Rattle.site_serve.specs.declared.server.ServeFault.TheVariants.{Write}
+use Rattle.site_serve.specs.declared.server.ServeFault.TheVariants as fault
 use Rattle.site_serve.specs.declared.server.Served.{Served}
 use Rattle.site_serve.proofs.Cuts.{concat_push, cut_closed, cut_last, cut_of, ends, turn_push}
 use Rattle.site_serve.proofs.Runs.{Serving, whole_begins}
@@ -116,14 +116,14 @@ next_is settings h m is = next_is_history settings h m.message is
 -- a message that wasn't entered leaves the history
 stays_if : (settings : Settings) (h : History) (moment caller : ℕ) (command : Command)
     (o : Option Refusal) → verdict settings h moment caller command ≡ o → is_none o ≡ false
-    → next {F = Fault} settings h (Order moment caller command) ≡ h
+    → next {F = Fault} settings h (Write moment caller command) ≡ h
 stays_if settings h moment caller command None e not = cc
 stays_if settings h moment caller command (Some refusal) e not =
     next_refused Fault settings h moment caller command refusal e
 
 stays : (settings : Settings) (h : History) (m : Meant Fault) → is_entered settings h m ≡ false
     → next settings h m ≡ h
-stays settings h (Order moment caller command) not =
+stays settings h (Write moment caller command) not =
     stays_if settings h moment caller command (verdict settings h moment caller command) refl not
 stays settings h (Read caller query) not = next_read Fault settings h caller query
 stays settings h (Broken caller fault) not = next_broken settings h caller fault
@@ -437,13 +437,13 @@ pub ended_in_answer : {K : Type 0} (content : K → Tables) (is_failed : K → B
     count → count < most → IsMessageAt held m rest
     → IsStep content is_failed is_honest may_leave zone (heard m) r new next
     → AppendsBeginning after last r
-    → HasLived content is_failed is_honest may_leave zone left now most before last (Err Write)
+    → HasLived content is_failed is_honest may_leave zone left now most before last (Err fault.Write)
     old next
 ended_in_answer content is_failed is_honest may_leave zone left now before after last old new next
     held rest r m count most run fewer here step part =
     let (stop, cut) = cut_last run.messages run.read held rest m run.off here in
     lived content is_failed is_honest may_leave zone left now before last most
-    (length run.messages + 1) (Err Write) old next run.read rest (run.messages ++ m ∷ [])
+    (length run.messages + 1) (Err fault.Write) old next run.read rest (run.messages ++ m ∷ [])
     (run.replies ++ r ∷ []) stop run.took (omega (arith, fewer, run.counted)) cut
     (turn_push (IsStep content is_failed is_honest may_leave zone) run.messages run.replies m r old
     new next run.answered step)

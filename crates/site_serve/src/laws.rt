@@ -1,4 +1,4 @@
-//! What the definitions mean. No code runs here.
+//! What is answered at a broken frame. No code runs here.
 ghost use Rattle.std.specs.Prelude.{◌≡◌, Err};
 ghost use Rattle.house_rows.specs.declared.settings.Settings.{Settings};
 ghost use Rattle.house_rows.specs.History.{History};

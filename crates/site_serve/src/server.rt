@@ -2,7 +2,8 @@
 ghost use Rattle.std.specs.Prelude.{◌≡◌, ◌⊎◌, ◌↔◌, ◌++◌, ◌<◌, ℕ, List, Ok, Err, true, false, length, IfOk, IfErr, IfSome, IsErr, OnOk, OnErr};
 ghost use Rattle.std.specs.Io.KnownBytes.{Appends, Consumes, IsAtEnd, Keeps};
 ghost use Rattle.device.specs.Given.{AppendsBeginning};
-ghost use Rattle.site.specs.Answers.{IsStep, zone_of};
+ghost use Rattle.site.specs.Answers.{zone_of};
+ghost use Rattle.site.specs.Histories.{Steps};
 ghost use Rattle.site_request.specs.Asked.{asked_of};
 ghost use Rattle.site_serve.specs.Ends.{HasEnded};
 ghost use Rattle.site_serve.specs.Lives.{HasLived, LeavesLives};
@@ -70,7 +71,7 @@ fn answer<W: Sink, K: Keep + Drop>(
     request: &Request<'_>,
 ) -> Result<(), Failure>
     ensures step { (reply : List ℕ)
-        × IsStep K.content K.is_failed K.is_honest K.may_leave (zone_of site.old)
+        × Steps K.Keep (zone_of site.old)
         (asked_of (Ok request.now)) reply (keep_of site.old) (keep_of site.new)
         × OnOk result (Appends (W.taken sink.old) (W.taken sink.new) reply)
         × AppendsBeginning (W.taken sink.old) (W.taken sink.new) reply }
@@ -130,16 +131,16 @@ pub fn serve<R: Source, W: Sink, K: Keep + Drop>(
     most: u64,
 ) -> Result<Served, ServeFault>
     ensures served { IfOk result (λ served. IfSome (R.left source.old) (λ stream.
-        HasServed (IsStep K.content K.is_failed K.is_honest K.may_leave (zone_of site.old))
+        HasServed (Steps K.Keep (zone_of site.old))
         stream most (W.taken sink.old) (W.taken sink.new) (keep_of site.old) (keep_of site.new)
         served)) }
     ensures read { result ≡ Err ServeFault.Read → (R.has_failed source.new ≡ true)
-        × HasRead (IsStep K.content K.is_failed K.is_honest K.may_leave (zone_of site.old))
+        × HasRead (Steps K.Keep (zone_of site.old))
         (R.left source.old) (R.left source.new) most (W.taken sink.old) (W.taken sink.new)
         (keep_of site.old) (keep_of site.new) }
     ensures write { result ≡ Err ServeFault.Write → (W.has_failed sink.new ≡ true)
         × IfSome (R.left source.old) (λ stream.
-        HasWritten (IsStep K.content K.is_failed K.is_honest K.may_leave (zone_of site.old))
+        HasWritten (Steps K.Keep (zone_of site.old))
         stream most (W.taken sink.old) (W.taken sink.new) (keep_of site.old) (keep_of site.new)) }
     ensures memory { result ≡ Err ServeFault.Memory
         → (source.new ≡ source.old) × (sink.new ≡ sink.old) × (site.new ≡ site.old) }

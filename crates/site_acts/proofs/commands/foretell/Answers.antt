@@ -10,5 +10,5 @@ pub returns-clause-told : goal.returns-clause-told
 returns-clause-told g c = λ honest.
     result_text c.write.result c.args.writer.now.zone c.args.closes
     (g.K.Keep.content c.args.keep.now) c.args.change.now c.in_ok-report.report
-    c.args.out.now.items c.write.new.out.items (c.in_ok-report.ensures.by_tables honest)
+    c.args.out.now.items c.write.new.out.items (c.in_ok-report.ensures.answers.value honest)
     c.write.ensures.ok

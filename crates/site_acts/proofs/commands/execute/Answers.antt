@@ -4,7 +4,7 @@ use Rattle.house_rows.specs.declared.reply.Reply.TheVariants.{Denied}
 use Rattle.site_acts.proofs.Acts.{acted_by_change, acted_by_reading, refused_text, some_text}
 use Rattle.site_acts.proofs.Staying.{faults_after, faults_err, refused_reads, undamaged_after}
 use Rattle.site_acts.proofs.Staying.{undamaged_err}
-use Rattle.site_acts.proofs.commands.order.Goals as goal
+use Rattle.site_acts.proofs.commands.execute.Goals as goal
 
 pub returns-in-Ok-Ok-clause-acted : goal.returns-in-Ok-Ok-clause-acted
 returns-in-Ok-Ok-clause-acted g c =

@@ -1,9 +1,8 @@
-//! What a command's path orders.
+//! The paths of commands.
 
-/// What a command's path orders, with the numbers of the path. The rest of a command is in its
-/// body.
+/// The path of a command, with its numbers. The rest of a command is in its body.
 #[derive(Clone, Copy, Debug)]
-pub enum Order {
+pub enum CommandPath {
     /// The house registers a member.
     Register,
     /// The house adds a category.
