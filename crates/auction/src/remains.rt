@@ -2,7 +2,7 @@
 ghost use Rattle.std.specs.Prelude.{◌≡◌};
 ghost use Rattle.auction.specs.Remains.{remains_of};
 
-use auction_runs::{Fault, finish_run};
+use auction_runs::{TaskFault, finish_run};
 use device::Writing;
 
 /// What a run leaves of the file of a house. Whoever drops it closes the file.
@@ -20,7 +20,7 @@ pub enum Remains<R, L> {
 /// if it was opened.
 pub fn refuse_house<R: Drop, L: Drop>(
     rt: &HostRuntime,
-    fault: Fault,
+    fault: TaskFault,
     rest: Option<R>,
 ) -> (u8, Remains<R, L>)
     ensures status { result.0 ≡ 1 }

@@ -7,12 +7,12 @@ use Rattle.site_audit.specs.declared.verdict.Verdict.{Verdict}
 use Rattle.auction_runs.specs.Audited.{HasMessages}
 use Rattle.auction_runs.specs.AuditedFrom.{FindsFrom, HasAuditedFrom, HasFoundFrom}
 use Rattle.auction_runs.specs.declared.audit.Run.{Run}
-use Rattle.auction_runs.specs.declared.fault.Fault.{Fault}
+use Rattle.auction_runs.specs.declared.fault.TaskFault.{TaskFault}
 
 -- from what reading both lists and auditing them say
 pub has_found_from : {K L R : Type 0} (content : K → Tables) (is_failed : K → Bool)
     (is_honest : K → Type 0) (left_bytes : L → Option (List ℕ)) (right_bytes : R → Option (List ℕ))
-    (c : ℕ) (zone : Zone) (left_source : Result L Fault) (right_source : Result R Fault)
+    (c : ℕ) (zone : Zone) (left_source : Result L TaskFault) (right_source : Result R TaskFault)
     (left right left_new right_new : K) (verdict : Verdict)
     (lefts rights left_given right_given : List (List ℕ))
     → HasMessages left_bytes left_source lefts → HasMessages right_bytes right_source rights

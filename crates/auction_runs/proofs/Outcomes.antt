@@ -9,8 +9,8 @@ use Rattle.house_rows.specs.declared.command.Command.{Command}
 use Rattle.house_rows.specs.Tables.{Tables}
 use Rattle.auction_runs.specs.Lines.{IsReported, IsTold}
 use Rattle.auction_runs.specs.Tabled.{HasSet, IsUndone, IsUntold}
-use Rattle.auction_runs.specs.declared.fault.Fault.{Fault}
-use Rattle.auction_runs.specs.declared.fault.Fault.TheVariants.{Write}
+use Rattle.auction_runs.specs.declared.fault.TaskFault.{TaskFault}
+use Rattle.auction_runs.specs.declared.fault.TaskFault.TheVariants.{Write}
 
 -- what a run promises where it goes well, it has done where it went well
 pub where_done : {T E P : Type 0} (r : Result T E) → IsOk r → OnOk r P → P
@@ -44,10 +44,10 @@ both_of s (Ok u) done ok p q = both s ok p q
 both_of s (Err e) done ok p q = absurd cc
 
 -- what is so of the fault of a run whose keep was ended
-pub err_after : {T : Type 0} {P Q : Fault → Type 0} (r s : Result T Fault)
+pub err_after : {T : Type 0} {P Q : TaskFault → Type 0} (r s : Result T TaskFault)
     (ended : Result (Unit {0}) KeepFault)
     → IfErr r (λ fault. (s ≡ Err fault) ⊎ IsEndFault ended fault) → IfErr s Q
-    → ((fault : Fault) → Q fault → P fault) → ((fault : Fault) → IsOfKeep fault → P fault)
+    → ((fault : TaskFault) → Q fault → P fault) → ((fault : TaskFault) → IsOfKeep fault → P fault)
     → IfErr r P
 err_after (Ok x) s ended why q f g = tt
 err_after {Q = Q} (Err e) s ended (inl is) q f g = f e (subst (λ v. IfErr v Q) is q)
@@ -55,7 +55,7 @@ err_after (Err e) s ended (inr (kept, gave, is)) q f g = g e (kept, is)
 
 -- a fault by how a keep's end went is one by what is left of the keep
 end_fault : {K L : Type 0} (is_ended is_left : K → L → Type 0) (keep : K) (left : L)
-    (ended : Result (Unit {0}) KeepFault) (fault : Fault) → IsOfEnded ended fault
+    (ended : Result (Unit {0}) KeepFault) (fault : TaskFault) → IsOfEnded ended fault
     → OnOk ended (is_ended keep left) → OnErr ended (is_left keep left)
     → IsOfEnd is_ended is_left keep left fault
 end_fault is_ended is_left keep left (Ok u) fault (inl (kept, gave, is)) done failed = absurd cc
@@ -65,7 +65,7 @@ end_fault is_ended is_left keep left (Ok u) fault (inr (is, ok)) done failed = i
 end_fault is_ended is_left keep left (Err e) fault (inr (is, ok)) done failed = absurd cc
 
 pub end_faults : {T K L : Type 0} (is_ended is_left : K → L → Type 0) (keep : K) (left : L)
-    (r : Result T Fault) (ended : Result (Unit {0}) KeepFault) → IfErr r (IsOfEnded ended)
+    (r : Result T TaskFault) (ended : Result (Unit {0}) KeepFault) → IfErr r (IsOfEnded ended)
     → OnOk ended (is_ended keep left) → OnErr ended (is_left keep left)
     → IfErr r (IsOfEnd is_ended is_left keep left)
 end_faults is_ended is_left keep left (Ok x) ended why done failed = tt
@@ -73,8 +73,8 @@ end_faults is_ended is_left keep left (Err e) ended why done failed =
     end_fault is_ended is_left keep left ended e why done failed
 
 -- and so is one that comes after another
-pub first_or_end_faults : {T K L : Type 0} (First : Fault → Type 0) (is_ended is_left : K → L → Type 0)
-    (keep : K) (left : L) (r : Result T Fault) (ended : Result (Unit {0}) KeepFault)
+pub first_or_end_faults : {T K L : Type 0} (First : TaskFault → Type 0) (is_ended is_left : K → L → Type 0)
+    (keep : K) (left : L) (r : Result T TaskFault) (ended : Result (Unit {0}) KeepFault)
     → IfErr r (λ fault. First fault ⊎ IsOfEnded ended fault)
     → OnOk ended (is_ended keep left) → OnErr ended (is_left keep left)
     → IfErr r (λ fault. First fault ⊎ IsOfEnd is_ended is_left keep left fault)
@@ -86,7 +86,7 @@ first_or_end_faults First is_ended is_left keep left (Err e) ended (inr why) don
 -- why no edition was told, by what setting the table came to
 pub untold : {K : Type 0} (content : K → Tables) (is_honest : K → Type 0)
     (may_leave : K → Tables → Type 0) (is_ended : K → Type 0) (moment : ℕ) (command : Command)
-    (given : K) (set : Result ℕ Fault) (r : Result (Unit {0}) Fault)
+    (given : K) (set : Result ℕ TaskFault) (r : Result (Unit {0}) TaskFault)
     → IfErr r (λ fault. (set ≡ Err fault) ⊎ ((fault ≡ Write) × IsOk set))
     → IfErr set (λ fault. (left : K) × IsUndone content is_honest moment command given left fault)
     → IfOk set (HasSet content is_honest may_leave is_ended moment command given)
@@ -119,8 +119,8 @@ flushed_twice handed_on taken a b c first (inl same) =
     subst (λ w. IsFlushed handed_on taken a w) (sym same) first
 
 -- what a run reports, whose fault is of a kind
-pub reported_by : {W : Type 0} (w : sink.Ghosts W) (MayHave : Fault → Type 0) (old new : W) (status : ℕ)
-    (outcome : Result (Unit {0}) Fault) → ((status ≡ 0) ↔ IsOk outcome)
+pub reported_by : {W : Type 0} (w : sink.Ghosts W) (MayHave : TaskFault → Type 0) (old new : W) (status : ℕ)
+    (outcome : Result (Unit {0}) TaskFault) → ((status ≡ 0) ↔ IsOk outcome)
     → ((status ≡ 1) ↔ IsErr outcome) → (IsOk outcome → new ≡ old)
     → IfErr outcome (IsTold w old new) → IfErr outcome MayHave
     → IsReported w MayHave old new status

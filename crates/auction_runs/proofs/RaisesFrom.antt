@@ -6,14 +6,14 @@ use Rattle.settle.specs.declared.zone.Zone.{Zone}
 use Rattle.site_audit.specs.declared.outcome.Surplus.{Surplus}
 use Rattle.auction_runs.specs.Audited.{HasMessages}
 use Rattle.auction_runs.specs.RaisedFrom.{HasLookedFrom, HasTriedFrom, TellsFrom}
-use Rattle.auction_runs.specs.declared.fault.Fault.{Fault}
+use Rattle.auction_runs.specs.declared.fault.TaskFault.{TaskFault}
 use Rattle.auction_runs.specs.declared.surplus.Raise.{Raise}
 use Rattle.auction_runs.specs.declared.surplus.Trial.{Trial}
 
 -- from what reading the list and the call say
 pub has_looked_from : {K S : Type 0} (content : K → Tables) (is_failed : K → Bool)
     (is_honest : K → Type 0) (bytes_of : S → Option (List ℕ)) (raise : Raise) (zone : Zone)
-    (source : Result S Fault) (left right left_new right_new : K) (report : Surplus)
+    (source : Result S TaskFault) (left right left_new right_new : K) (report : Surplus)
     (texts given : List (List ℕ)) → HasMessages bytes_of source texts → given ≡ texts
     → TellsFrom content is_failed is_honest raise zone given left right left_new right_new report
     → HasLookedFrom content is_failed is_honest bytes_of raise zone source left right left_new

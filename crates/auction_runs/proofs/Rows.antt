@@ -10,7 +10,7 @@ use Rattle.office.specs.Tallies.{counted, nothing}
 use Rattle.house_rows.specs.declared.keep.Keep as keep
 use Rattle.office.specs.declared.fault.ImportFault.{ImportFault}
 use Rattle.office.specs.declared.fault.ImportFault.TheVariants as importing
-use Rattle.office.specs.declared.order.Lister.{Lister}
+use Rattle.office.specs.declared.lister.Lister.{Lister}
 use Rattle.office.specs.declared.outcome.Outcome.{Outcome}
 use Rattle.office.specs.declared.outcome.Outcome.TheVariants as outcome
 use Rattle.office.specs.declared.tally.Imported.{Imported}
@@ -21,8 +21,8 @@ use Rattle.site_request.specs.declared.asked.Asked.{Asked}
 use Rattle.steps.specs.Reading.{records_of}
 use Rattle.auction_runs.specs.Faults.{fault_of_import}
 use Rattle.auction_runs.specs.Listed.{HasAll, HasDealt, HasDealtSome, HasPrinted, HasTaken, IsDealtPart, IsHad, IsKnown}
-use Rattle.auction_runs.specs.declared.fault.Fault.{Fault}
-use Rattle.auction_runs.specs.declared.fault.Fault.TheVariants.{Write}
+use Rattle.auction_runs.specs.declared.fault.TaskFault.{TaskFault}
+use Rattle.auction_runs.specs.declared.fault.TaskFault.TheVariants.{Write}
 
 -- what follows of a result that is the same
 pub ok_of_same : {T E F : Type 0} (P Q : T → Type 0) (r : Result T E) (s : Result T F)
@@ -63,7 +63,7 @@ pub dealt : {K R : Type 0} (content : K → Tables) (is_failed : K → Bool)
     (is_honest : K → Type 0) (may_leave : K → Tables → Type 0) (is_ended : K → Type 0)
     (remaining : R → Option (List ℕ)) (by : Lister) (given begun : K)
     (house : HasTaken content is_failed is_honest may_leave is_ended by given)
-    (lots : Result R Fault) (mine : R) (before between after : Option (List ℕ)) (report : Imported)
+    (lots : Result R TaskFault) (mine : R) (before between after : Option (List ℕ)) (report : Imported)
     → lots ≡ Ok mine → begun ≡ house.asked → Keeps between after
     → ((text : List ℕ) → remaining mine ≡ Some text
     → HasListed (IsStep content is_failed is_honest may_leave house.zone)
@@ -208,9 +208,9 @@ module _ {K R : Type 0} (k : keep.Ghosts K) (remaining : R → Option (List ℕ)
     (member : IsKnown k.content k.is_failed k.is_honest k.may_leave by.member given asked)
     (begun_is : begun ≡ asked) (kept_zone : k.is_honest asked → IsZoneOf (k.content asked).settings.zone zone)
     (ordered : HasOrdered (IsStep k.content k.is_failed k.is_honest k.may_leave zone) by begun left)
-    (last_is : last ≡ left) (lots : Result R Fault) (mine : R) (opened : lots ≡ Ok mine)
+    (last_is : last ≡ left) (lots : Result R TaskFault) (mine : R) (opened : lots ≡ Ok mine)
     (before between after : Option (List ℕ)) (keeps : Keeps between after) where
-  some_dealt : (importing : ImportFault) (fault : Fault) → fault ≡ fault_of_import importing
+  some_dealt : (importing : ImportFault) (fault : TaskFault) → fault ≡ fault_of_import importing
       → (text : List ℕ)
       → HasEnded (IsStep k.content k.is_failed k.is_honest k.may_leave zone) (Appends before between)
       by (records_of text) importing begun left
@@ -231,7 +231,7 @@ module _ {K R : Type 0} (k : keep.Ghosts K) (remaining : R → Option (List ℕ)
         (λ x p. grown before between after x keeps p) ended));
   }
 
-  pub part_of_import : (r : Result Imported Fault) (s : Result Imported ImportFault)
+  pub part_of_import : (r : Result Imported TaskFault) (s : Result Imported ImportFault)
       → IfErr r (λ fault. ((importing : ImportFault) × (s ≡ Err importing)
       × (fault ≡ fault_of_import importing))
       ⊎ ((report : Imported) × (s ≡ Ok report) × (fault ≡ Write)))
@@ -269,7 +269,7 @@ module _ {K R : Type 0} (k : keep.Ghosts K) (remaining : R → Option (List ℕ)
 
 -- what was printed, whichever way it ended
 pub printed_of : {K R : Type 0} (k : keep.Ghosts K) (remaining : R → Option (List ℕ)) (by : Lister)
-    (given last : K) (lots : Result R Fault) (before after : Option (List ℕ)) (r : Result Imported Fault)
+    (given last : K) (lots : Result R TaskFault) (before after : Option (List ℕ)) (r : Result Imported TaskFault)
     → IfOk r (λ report. (reader : R) → lots ≡ Ok reader → (text : List ℕ) → remaining reader ≡ Some text
     → HasDealt k.content k.is_failed k.is_honest k.may_leave (λ q. q ≡ last) by text before after given
     report)

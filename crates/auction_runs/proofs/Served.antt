@@ -5,7 +5,7 @@ use Rattle.device.specs.declared.failure.Failure.{Failure}
 use Rattle.site_connections.specs.Turns.{HasStopped, HasTaken, HasTakenSome, TakesEach, TakesWell}
 use Rattle.site_connections.specs.declared.connection.Connection.{Connection}
 use Rattle.auction_runs.specs.Served.{StopsServing}
-use Rattle.auction_runs.specs.declared.fault.Fault.{Fault}
+use Rattle.auction_runs.specs.declared.fault.TaskFault.{TaskFault}
 
 module _ {C K : Type 0} (is_failed : K → Bool) (Takes : C × K → C × K → Type 0) (count : ℕ) where
   -- all of them
@@ -48,7 +48,7 @@ module _ {C K : Type 0} (is_failed : K → Bool) (Takes : C × K → C × K → 
   some_of_end old keep (inr (inr failed)) = record { last = failed.1.0; taken = inr failed.1.1 }
 
   -- however answering ended
-  pub some_of_answered : {T : Type 0} (old new : C × K) (r : Result T Fault)
+  pub some_of_answered : {T : Type 0} (old new : C × K) (r : Result T TaskFault)
       → OnOk r (TakesEach (TakesWell is_failed Takes) count old new)
       → IfErr r (StopsServing is_failed Takes count old new.1)
       → HasTakenSome is_failed Takes count old new.1

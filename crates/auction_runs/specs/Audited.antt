@@ -18,13 +18,13 @@ use Rattle.wire.specs.declared.fault.WireFault.{WireFault}
 use Rattle.auction_runs.specs.Faults.{IsOfKeep}
 use Rattle.auction_runs.specs.Printed.{apart_line, equal_line}
 use Rattle.auction_runs.specs.declared.audit.Run.{Run}
-use Rattle.auction_runs.specs.declared.fault.Fault.{Fault}
-use Rattle.auction_runs.specs.declared.fault.Fault.TheVariants.{Memory, Read, Write, Broken}
+use Rattle.auction_runs.specs.declared.fault.TaskFault.{TaskFault}
+use Rattle.auction_runs.specs.declared.fault.TaskFault.TheVariants.{Memory, Read, Write, Broken}
 use Rattle.auction_runs.specs.declared.fault.Side.{Side}
 use Rattle.auction_runs.specs.declared.fault.Side.TheVariants.{Left, Right}
 
 -- a source is open, and where its bytes are known they are these messages
-abbrev pub HasMessages : {S : Type 0} → (S → Option (List ℕ)) → Result S Fault → List (List ℕ)
+abbrev pub HasMessages : {S : Type 0} → (S → Option (List ℕ)) → Result S TaskFault → List (List ℕ)
     → Type 0
 HasMessages bytes_of (Ok source) texts = IfSome (bytes_of source) (λ s. IsCutInto s texts [])
 HasMessages bytes_of (Err fault) texts = ⊥
@@ -40,21 +40,21 @@ pub record IsBroken (bytes : List ℕ) : Type 0 where
 
 -- why a side gives no messages: its source can't be opened; or memory was refused, the source failed,
 -- or its bytes, where they are known, are no list
-abbrev pub IsUnread : {S : Type 0} → (S → Option (List ℕ)) → Side → Result S Fault → Fault → Type 0
+abbrev pub IsUnread : {S : Type 0} → (S → Option (List ℕ)) → Side → Result S TaskFault → TaskFault → Type 0
 IsUnread bytes_of side (Ok source) fault = (fault ≡ Memory) ⊎ ((fault ≡ Read)
     ⊎ ((fault ≡ Broken side) × IfSome (bytes_of source) IsBroken))
 IsUnread bytes_of side (Err report) fault = fault ≡ report
 
 -- why two sources give no messages, the left one first
 abbrev pub AreUnread : {L R : Type 0} → (L → Option (List ℕ)) → (R → Option (List ℕ))
-    → Result L Fault → Result R Fault → Fault → Type 0
+    → Result L TaskFault → Result R TaskFault → TaskFault → Type 0
 AreUnread left_bytes right_bytes left right fault = IsUnread left_bytes Left left fault
     ⊎ ((lefts : List (List ℕ)) × HasMessages left_bytes left lefts
     × IsUnread right_bytes Right right fault)
 
 -- why two runs are not compared: a keep reported the fault, or a side gives no messages
 abbrev pub IsUncompared : {K L R : Type 0} → (L → Option (List ℕ)) → (R → Option (List ℕ))
-    → Run K L → Run K R → Fault → Type 0
+    → Run K L → Run K R → TaskFault → Type 0
 IsUncompared left_bytes right_bytes left right fault =
     IsOfKeep fault ⊎ AreUnread left_bytes right_bytes left.source right.source fault
 
@@ -74,7 +74,7 @@ Finds content is_failed is_honest c zone lefts rights left right left_new right_
 -- the messages of two sources were compared over two keeps, and this was found
 pub record HasFound {K L R : Type 0} (content : K → Tables) (is_failed : K → Bool)
     (is_honest : K → Type 0) (left_bytes : L → Option (List ℕ)) (right_bytes : R → Option (List ℕ))
-    (c : ℕ) (zone : Zone) (left_source : Result L Fault) (right_source : Result R Fault)
+    (c : ℕ) (zone : Zone) (left_source : Result L TaskFault) (right_source : Result R TaskFault)
     (left right left_new right_new : K) (verdict : Verdict) : Type 0 where
   pub lefts : List (List ℕ)
   pub rights : List (List ℕ)
@@ -116,6 +116,6 @@ pub record HasReported {K L R : Type 0} (content : K → Tables) (is_failed : K 
 
 -- why nothing, or not all, was reported: the runs are not compared, or the output failed
 abbrev pub IsUnreported : {K L R : Type 0} → (L → Option (List ℕ)) → (R → Option (List ℕ))
-    → Run K L → Run K R → Fault → Type 0
+    → Run K L → Run K R → TaskFault → Type 0
 IsUnreported left_bytes right_bytes left right fault =
     (fault ≡ Write) ⊎ IsUncompared left_bytes right_bytes left right fault

@@ -13,7 +13,7 @@ use Rattle.site_audit.specs.Places.{Heard, IsHeard}
 use Rattle.site_audit.specs.declared.verdict.Verdict.{Verdict}
 use Rattle.auction_runs.specs.Audited.{HasMessages, IsReported}
 use Rattle.auction_runs.specs.declared.audit.Run.{Run}
-use Rattle.auction_runs.specs.declared.fault.Fault.{Fault}
+use Rattle.auction_runs.specs.declared.fault.TaskFault.{TaskFault}
 
 -- what an audit of two lists says, by a zone, over two keeps that have the tables of histories which
 -- are alike for the caller; two keeps of equal tables have one history
@@ -32,7 +32,7 @@ FindsFrom content is_failed is_honest c zone lefts rights left right left_new ri
 -- the messages of two sources were compared over two keeps, and this was found
 pub record HasFoundFrom {K L R : Type 0} (content : K → Tables) (is_failed : K → Bool)
     (is_honest : K → Type 0) (left_bytes : L → Option (List ℕ)) (right_bytes : R → Option (List ℕ))
-    (c : ℕ) (zone : Zone) (left_source : Result L Fault) (right_source : Result R Fault)
+    (c : ℕ) (zone : Zone) (left_source : Result L TaskFault) (right_source : Result R TaskFault)
     (left right left_new right_new : K) (verdict : Verdict) : Type 0 where
   pub lefts : List (List ℕ)
   pub rights : List (List ℕ)

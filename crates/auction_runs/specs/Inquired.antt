@@ -3,8 +3,8 @@ use Rattle.std.specs.Prelude.{◌≡◌, ◌≢◌, ◌⊎◌, ◌<◌, ◌≤�
 use Rattle.settle.specs.Calendar.{day_text}
 use Rattle.settle.specs.declared.day.TheConstants.{LAST_DAY}
 use Rattle.auction_words.specs.declared.command_line.StatementWords.{StatementWords}
-use Rattle.auction_runs.specs.declared.fault.Fault.{Fault}
-use Rattle.auction_runs.specs.declared.fault.Fault.TheVariants.{Date, Order}
+use Rattle.auction_runs.specs.declared.fault.TaskFault.{TaskFault}
+use Rattle.auction_runs.specs.declared.fault.TaskFault.TheVariants.{Date, Order}
 
 -- a text is no day
 abbrev pub IsNoDay : List ℕ → Type 0
@@ -20,7 +20,7 @@ pub record AreReversed (from to : List ℕ) : Type 0 where
   pub reversed : last < first
 
 -- why words ask for no statement: a text is no day, or the period ends before it begins
-abbrev pub IsUnasked : StatementWords → Fault → Type 0
+abbrev pub IsUnasked : StatementWords → TaskFault → Type 0
 IsUnasked words fault =
     ((fault ≡ Date) × (IsNoDay words.from.now ⊎ IsNoDay words.to.now))
     ⊎ ((fault ≡ Order) × AreReversed words.from.now words.to.now)

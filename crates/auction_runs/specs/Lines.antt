@@ -3,9 +3,9 @@ use Rattle.std.specs.Prelude.{◌≡◌, ℕ, List, [], ◌∷◌, false, Option
 use Rattle.std.specs.Io.KnownBytes.{Appends}
 use Rattle.device.specs.Given.{AppendsBeginning}
 use Rattle.device.specs.declared.sink.Sink as sink
-use Rattle.auction_runs.specs.declared.fault.Fault.{Fault}
-use Rattle.auction_runs.specs.declared.fault.Fault.TheVariants.{Memory, Store, Damaged, Bands, Zone, Read, Write, Socket, Date, Order, Member, Refused, Broken}
-use Rattle.auction_runs.specs.declared.fault.Fault.TheVariants as lots
+use Rattle.auction_runs.specs.declared.fault.TaskFault.{TaskFault}
+use Rattle.auction_runs.specs.declared.fault.TaskFault.TheVariants.{Memory, Store, Damaged, Bands, Zone, Read, Write, Socket, Date, Order, Member, Refused, Broken}
+use Rattle.auction_runs.specs.declared.fault.TaskFault.TheVariants as lots
 use Rattle.auction_runs.specs.declared.fault.Side.{Side}
 use Rattle.auction_runs.specs.declared.fault.Side.TheVariants.{Left, Right, Only}
 use Rattle.house_rows.specs.Names.{refusal_name}
@@ -37,7 +37,7 @@ side_name Right = codes "RIGHT"
 side_name Only = codes "LIST"
 
 -- the line of a fault
-abbrev pub line_of : Fault → List ℕ
+abbrev pub line_of : TaskFault → List ℕ
 line_of Memory = codes "auction: memory"
 line_of Store = codes "auction: file: Store"
 line_of Damaged = codes "auction: file: Damaged"
@@ -56,13 +56,13 @@ line_of (Broken side) = codes "auction: " ++ side_name side ++ codes " is no lis
 
 -- A sink took a beginning of the line of a fault. Where it has not failed it took all of it, and handed on
 -- all that it took.
-pub record IsTold {W : Type 0} (w : sink.Ghosts W) (old new : W) (fault : Fault) : Type 0 where
+pub record IsTold {W : Type 0} (w : sink.Ghosts W) (old new : W) (fault : TaskFault) : Type 0 where
   pub part : AppendsBeginning (w.taken old) (w.taken new) (line_of fault ++ 10 ∷ [])
   pub whole : w.has_failed new ≡ false
       → Appends (w.taken old) (w.taken new) (line_of fault ++ 10 ∷ [])
   pub handed_on : w.has_failed new ≡ false → w.handed_on new ≡ w.taken new
 
 -- by the exit status of a run: nothing was written, or the line of a fault that it may have
-abbrev pub IsReported : {W : Type 0} → sink.Ghosts W → (Fault → Type 0) → W → W → ℕ → Type 0
+abbrev pub IsReported : {W : Type 0} → sink.Ghosts W → (TaskFault → Type 0) → W → W → ℕ → Type 0
 IsReported w MayHave old new status = (status ≡ 0 → new ≡ old)
-    × (status ≡ 1 → (fault : Fault) × MayHave fault × IsTold w old new fault)
+    × (status ≡ 1 → (fault : TaskFault) × MayHave fault × IsTold w old new fault)

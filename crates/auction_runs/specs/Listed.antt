@@ -10,7 +10,7 @@ use Rattle.office.specs.Imports.{HasEnded, HasListed, HasOrdered, IsCounted}
 use Rattle.office.specs.Lines.{totals_line}
 use Rattle.office.specs.Tallies.{nothing}
 use Rattle.office.specs.declared.fault.ImportFault.{ImportFault}
-use Rattle.office.specs.declared.order.Lister.{Lister}
+use Rattle.office.specs.declared.lister.Lister.{Lister}
 use Rattle.office.specs.declared.outcome.Outcome.TheVariants.{Refused}
 use Rattle.office.specs.declared.tally.Imported.{Imported}
 use Rattle.settle.specs.Zoned.{IsZoneOf}
@@ -20,8 +20,8 @@ use Rattle.site_request.specs.declared.asked.Asked.{Asked}
 use Rattle.steps.specs.Reading.{records_of}
 use Rattle.auction_runs.specs.Faults.{fault_of_import}
 use Rattle.auction_runs.specs.Over.{IsOver}
-use Rattle.auction_runs.specs.declared.fault.Fault.{Fault}
-use Rattle.auction_runs.specs.declared.fault.Fault.TheVariants.{Write}
+use Rattle.auction_runs.specs.declared.fault.TaskFault.{TaskFault}
+use Rattle.auction_runs.specs.declared.fault.TaskFault.TheVariants.{Write}
 
 -- the keep was asked whether the member is registered, who is
 pub record IsKnown {K : Type 0} (content : K → Tables) (is_failed : K → Bool)
@@ -101,7 +101,7 @@ pub record HasAll {K : Type 0} (content : K → Tables) (is_failed : K → Bool)
 
 -- some rows of a lot file were dealt with in turn and their lines printed, and then it ended with a fault
 pub record HasDealtSome {K : Type 0} (k : keep.Ghosts K) (by : Lister) (text : List ℕ)
-    (before after : Option (List ℕ)) (given : K) (fault : Fault) (last : K) : Type 0 where
+    (before after : Option (List ℕ)) (given : K) (fault : TaskFault) (last : K) : Type 0 where
   pub asked : K
   pub member : IsKnown k.content k.is_failed k.is_honest k.may_leave by.member given asked
   pub zone : Zone
@@ -120,7 +120,7 @@ HasDealtAll k by text before after given last = (report : Imported)
 
 -- Of an import that ended with a fault nothing was printed, or that; or all was, and could not be handed on.
 abbrev pub IsDealtPart : {K : Type 0} → keep.Ghosts K → Lister → List ℕ → Option (List ℕ)
-    → Option (List ℕ) → K → Fault → K → Type 0
+    → Option (List ℕ) → K → TaskFault → K → Type 0
 IsDealtPart k by text before after given fault last = Keeps before after
     ⊎ HasDealtSome k by text before after given fault last
     ⊎ ((fault ≡ Write) × HasDealtAll k by text before after given last)
@@ -130,4 +130,4 @@ abbrev pub HasPrinted : {K : Type 0} → keep.Ghosts K → Lister → List ℕ �
     → Option (List ℕ) → K → Type 0
 HasPrinted {K} k by text before after given = (last : K)
     × (HasDealtAll k by text before after given last
-    ⊎ ((fault : Fault) × IsDealtPart k by text before after given fault last))
+    ⊎ ((fault : TaskFault) × IsDealtPart k by text before after given fault last))

@@ -15,8 +15,8 @@ use Rattle.site_audit.specs.declared.outcome.Surplus.TheVariants.{Same, NotCover
 use Rattle.auction_runs.specs.Audited.{HasMessages, IsUnread}
 use Rattle.auction_runs.specs.Faults.{IsOfKeep}
 use Rattle.auction_runs.specs.Printed.{not_covered_line, same_line}
-use Rattle.auction_runs.specs.declared.fault.Fault.{Fault}
-use Rattle.auction_runs.specs.declared.fault.Fault.TheVariants.{Write}
+use Rattle.auction_runs.specs.declared.fault.TaskFault.{TaskFault}
+use Rattle.auction_runs.specs.declared.fault.TaskFault.TheVariants.{Write}
 use Rattle.auction_runs.specs.declared.fault.Side.TheVariants.{Only}
 use Rattle.auction_runs.specs.declared.surplus.Raise.{Raise}
 use Rattle.auction_runs.specs.declared.surplus.Trial.{Trial}
@@ -36,7 +36,7 @@ TellsOf content is_failed is_honest raise zone texts left right left_new right_n
 -- a bid of the messages of a source was raised, over two keeps, and this was found
 pub record HasLooked {K S : Type 0} (content : K → Tables) (is_failed : K → Bool)
     (is_honest : K → Type 0) (bytes_of : S → Option (List ℕ)) (raise : Raise) (zone : Zone)
-    (source : Result S Fault) (left right left_new right_new : K) (report : Surplus) : Type 0 where
+    (source : Result S TaskFault) (left right left_new right_new : K) (report : Surplus) : Type 0 where
   pub texts : List (List ℕ)
   pub messages : HasMessages bytes_of source texts
   pub found : TellsOf content is_failed is_honest raise zone texts left right left_new right_new report
@@ -53,7 +53,7 @@ pub record HasTried {K S : Type 0} (content : K → Tables) (is_failed : K → B
       trial.left trial.right left_keep right_keep report
 
 -- why nothing was found: a keep reported the fault, or the source gives no messages
-abbrev pub IsUntried : {K S : Type 0} → (S → Option (List ℕ)) → Trial K S → Fault → Type 0
+abbrev pub IsUntried : {K S : Type 0} → (S → Option (List ℕ)) → Trial K S → TaskFault → Type 0
 IsUntried bytes_of trial fault = IsOfKeep fault ⊎ IsUnread bytes_of Only trial.source fault
 
 -- what was found was printed, and whether the bid is covered
@@ -72,5 +72,5 @@ pub record HasShown {K S : Type 0} (content : K → Tables) (is_failed : K → B
   pub shown : IsShown before after report covered
 
 -- why nothing, or not all, was printed: nothing was found, or the output failed
-abbrev pub IsUnshown : {K S : Type 0} → (S → Option (List ℕ)) → Trial K S → Fault → Type 0
+abbrev pub IsUnshown : {K S : Type 0} → (S → Option (List ℕ)) → Trial K S → TaskFault → Type 0
 IsUnshown bytes_of trial fault = (fault ≡ Write) ⊎ IsUntried bytes_of trial fault

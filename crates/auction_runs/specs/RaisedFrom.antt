@@ -13,7 +13,7 @@ use Rattle.site_audit.specs.declared.outcome.Surplus.{Surplus}
 use Rattle.steps.specs.Table.{IsBandTable}
 use Rattle.auction_runs.specs.Audited.{HasMessages}
 use Rattle.auction_runs.specs.Raised.{IsShown}
-use Rattle.auction_runs.specs.declared.fault.Fault.{Fault}
+use Rattle.auction_runs.specs.declared.fault.TaskFault.{TaskFault}
 use Rattle.auction_runs.specs.declared.surplus.Raise.{Raise}
 use Rattle.auction_runs.specs.declared.surplus.Trial.{Trial}
 
@@ -33,7 +33,7 @@ TellsFrom content is_failed is_honest raise zone texts left right left_new right
 -- a bid of the messages of a source was raised, over two keeps, and this was found
 pub record HasLookedFrom {K S : Type 0} (content : K → Tables) (is_failed : K → Bool)
     (is_honest : K → Type 0) (bytes_of : S → Option (List ℕ)) (raise : Raise) (zone : Zone)
-    (source : Result S Fault) (left right left_new right_new : K) (report : Surplus) : Type 0 where
+    (source : Result S TaskFault) (left right left_new right_new : K) (report : Surplus) : Type 0 where
   pub texts : List (List ℕ)
   pub messages : HasMessages bytes_of source texts
   pub found : TellsFrom content is_failed is_honest raise zone texts left right left_new right_new

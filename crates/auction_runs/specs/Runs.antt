@@ -3,8 +3,8 @@ use Rattle.std.specs.Prelude.{◌≡◌, ◌⊎◌, ◌≤◌, ℕ, Bool, true, 
 use Rattle.auction_runs.specs.Over.{IsOver}
 use Rattle.auction_runs.specs.Stated.{HasRead}
 use Rattle.auction_runs.specs.Tabled.{HasSet, IsTabledOver}
-use Rattle.auction_runs.specs.declared.fault.Fault.{Fault}
-use Rattle.auction_runs.specs.declared.fault.Fault.TheVariants.{Socket, Store, Write}
+use Rattle.auction_runs.specs.declared.fault.TaskFault.{TaskFault}
+use Rattle.auction_runs.specs.declared.fault.TaskFault.TheVariants.{Socket, Store, Write}
 use Rattle.auction_runs.specs.declared.statement.Inquiry.{Inquiry}
 use Rattle.auction_words.specs.Houses.{IsSetBy}
 use Rattle.auction_words.specs.declared.command_line.HouseWords.{HouseWords}
@@ -44,7 +44,7 @@ abbrev pub MayHaveAnswered : {C K : Type 0} → keep.Ghosts K → (Zone → C ×
 MayHaveAnswered k Takes count given last = (last ≡ given) ⊎ HasAnsweredSome k Takes count given last
 
 -- why answering ended: the output failed, accepting did, or the keep has
-abbrev pub IsServingFault : {K : Type 0} → keep.Ghosts K → K → Fault → Type 0
+abbrev pub IsServingFault : {K : Type 0} → keep.Ghosts K → K → TaskFault → Type 0
 IsServingFault k last fault = (fault ≡ Write) ⊎ (fault ≡ Socket)
     ⊎ ((fault ≡ Store) × (k.is_failed last ≡ true))
 

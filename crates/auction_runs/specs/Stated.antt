@@ -10,8 +10,8 @@ use Rattle.settle.specs.Text.{statement_csv, statement_text}
 use Rattle.settle.specs.Zoned.{IsZoneOf}
 use Rattle.settle.specs.declared.zone.Zone.{Zone}
 use Rattle.auction_runs.specs.Faults.{IsOfKeep}
-use Rattle.auction_runs.specs.declared.fault.Fault.{Fault}
-use Rattle.auction_runs.specs.declared.fault.Fault.TheVariants.{Member, Memory, Order, Write}
+use Rattle.auction_runs.specs.declared.fault.TaskFault.{TaskFault}
+use Rattle.auction_runs.specs.declared.fault.TaskFault.TheVariants.{Member, Memory, Order, Write}
 use Rattle.auction_runs.specs.declared.statement.Inquiry.{Inquiry}
 
 -- an account, as records of CSV where they are asked for, and else in columns
@@ -29,18 +29,18 @@ pub record IsAccount (t : Tables) (asked : Inquiry) (account : Account) : Type 0
 
 -- why there is no account: the keep reported a fault of its own, or memory was refused; the period
 -- ends before it begins; or nobody has the member's number
-abbrev pub IsUnread : {K : Type 0} → (K → Tables) → (K → Type 0) → Inquiry → K → K → Fault → Type 0
+abbrev pub IsUnread : {K : Type 0} → (K → Tables) → (K → Type 0) → Inquiry → K → K → TaskFault → Type 0
 IsUnread content is_honest asked old new fault = IsOfKeep fault
     ⊎ ((fault ≡ Order) × (asked.to < asked.from))
     ⊎ ((fault ≡ Member) × (is_honest new
     → is_some (member_at (content old).members asked.member) ≡ false))
 
 -- why it was not written: memory was refused, or the output failed
-abbrev pub IsUnwritten : Fault → Type 0
+abbrev pub IsUnwritten : TaskFault → Type 0
 IsUnwritten fault = (fault ≡ Memory) ⊎ (fault ≡ Write)
 
 -- why there is no statement of a keep that was given
-abbrev pub IsUnstated : {K : Type 0} → (K → Tables) → (K → Type 0) → Inquiry → K → Fault → Type 0
+abbrev pub IsUnstated : {K : Type 0} → (K → Tables) → (K → Type 0) → Inquiry → K → TaskFault → Type 0
 IsUnstated {K} content is_honest asked given fault =
     ((left : K) × IsUnread content is_honest asked given left fault) ⊎ IsUnwritten fault
 

@@ -12,8 +12,8 @@ use Rattle.house_rows.specs.Verdict.{IsHistory, verdict}
 use Rattle.auction_runs.specs.Faults.{IsOfKeep}
 use Rattle.auction_runs.specs.Over.{IsOver}
 use Rattle.auction_runs.specs.Printed.{edition_line}
-use Rattle.auction_runs.specs.declared.fault.Fault.{Fault}
-use Rattle.auction_runs.specs.declared.fault.Fault.TheVariants.{Refused, Write}
+use Rattle.auction_runs.specs.declared.fault.TaskFault.{TaskFault}
+use Rattle.auction_runs.specs.declared.fault.TaskFault.TheVariants.{Refused, Write}
 
 -- the house's command was accepted over the tables of a history, the new tables are those with it,
 -- and this is its edition. No crash takes it back
@@ -28,7 +28,7 @@ pub record IsTabled {K : Type 0} (content : K → Tables) (may_leave : K → Tab
 
 -- the house refused its command over the tables of a history, by its verdict, and stays as it was
 pub record IsRefused {K : Type 0} (content : K → Tables) (is_honest : K → Type 0) (moment : ℕ)
-    (command : Command) (old new : K) (fault : Fault) : Type 0 where
+    (command : Command) (old new : K) (fault : TaskFault) : Type 0 where
   pub refusal : Refusal
   pub report : fault ≡ Refused refusal
   pub by_history : is_honest new → (settings : Settings) (h : History) → IsHistory settings h
@@ -37,7 +37,7 @@ pub record IsRefused {K : Type 0} (content : K → Tables) (is_honest : K → Ty
 
 -- why a keep didn't do what the command asks for: it reported the fault itself, or the command is
 -- refused
-abbrev pub IsUndone : {K : Type 0} → (K → Tables) → (K → Type 0) → ℕ → Command → K → K → Fault
+abbrev pub IsUndone : {K : Type 0} → (K → Tables) → (K → Type 0) → ℕ → Command → K → K → TaskFault
     → Type 0
 IsUndone content is_honest moment command old new fault =
     IsOfKeep fault ⊎ IsRefused content is_honest moment command old new fault
@@ -53,7 +53,7 @@ pub record HasSet {K : Type 0} (content : K → Tables) (is_honest : K → Type 
 -- why no edition was told: the keep that was given didn't take the command, or it took it and was
 -- ended, and the output failed
 abbrev pub IsUntold : {K : Type 0} → (K → Tables) → (K → Type 0) → (K → Tables → Type 0)
-    → (K → Type 0) → ℕ → Command → K → Fault → Type 0
+    → (K → Type 0) → ℕ → Command → K → TaskFault → Type 0
 IsUntold {K} content is_honest may_leave is_ended moment command given fault =
     ((left : K) × IsUndone content is_honest moment command given left fault)
     ⊎ ((fault ≡ Write) × ((edition : ℕ)

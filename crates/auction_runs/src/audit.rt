@@ -8,7 +8,7 @@ ghost use Rattle.settle.specs.Zoned.{IsZoneOf};
 ghost use Rattle.site.specs.Answers.{zone_of};
 ghost use Rattle.site_serve.specs.Serving.{keep_of};
 
-use crate::fault::{Fault, Side, finish_run};
+use crate::fault::{Side, TaskFault, finish_run};
 use crate::serve::site_over;
 use device::{Sink, Source};
 use house_rows::Keep;
@@ -23,26 +23,26 @@ pub struct Run<K: Drop, S: Drop> {
     /// The keep of the house.
     pub keep: K,
     /// The source of the messages.
-    pub source: Result<S, Fault>,
+    pub source: Result<S, TaskFault>,
 }
 
 // Why a side gives no list of messages.
-fn fault_of(fault: MessagesFault, side: Side) -> Fault
+fn fault_of(fault: MessagesFault, side: Side) -> TaskFault
     ensures { result ≡ fault_of_messages side fault }
 {
     match fault {
-        MessagesFault::Read => Fault::Read,
-        MessagesFault::Memory => Fault::Memory,
-        MessagesFault::Broken(_) => Fault::Broken(side),
+        MessagesFault::Read => TaskFault::Read,
+        MessagesFault::Memory => TaskFault::Memory,
+        MessagesFault::Broken(_) => TaskFault::Broken(side),
     }
 }
 
 /// The messages of a side.
 pub fn messages<S: Source + Drop>(
     alloc: Global,
-    source: Result<S, Fault>,
+    source: Result<S, TaskFault>,
     side: Side,
-) -> Result<Vec<Vec<u8>>, Fault>
+) -> Result<Vec<Vec<u8>>, TaskFault>
     ensures ok { IfOk result (λ list. HasMessages S.left source (map (λ m. m.items) list.items)) }
     ensures fault { IfErr result (λ fault. IsUnread S.left side source fault) }
 {
@@ -58,7 +58,7 @@ pub fn both_begun<K: Keep + Drop>(
     alloc: Global,
     left: K,
     right: K,
-) -> Result<(Site<K>, Site<K>), Fault>
+) -> Result<(Site<K>, Site<K>), TaskFault>
     ensures left { IfOk result (λ sites. keep_of sites.0 ≡ left) }
     ensures right { IfOk result (λ sites. keep_of sites.1 ≡ right) }
     ensures zone { K.is_honest left → IfOk result (λ sites.
@@ -78,10 +78,10 @@ fn compare_over<L: Source + Drop, R: Source + Drop, K: Keep + Drop>(
     alloc: Global,
     left: &mut Site<K>,
     right: &mut Site<K>,
-    left_source: Result<L, Fault>,
-    right_source: Result<R, Fault>,
+    left_source: Result<L, TaskFault>,
+    right_source: Result<R, TaskFault>,
     caller: u64,
-) -> Result<Verdict, Fault>
+) -> Result<Verdict, TaskFault>
     ensures found { IfOk result (HasFound K.content K.is_failed K.is_honest L.left R.left caller
         (zone_of left.old) left_source right_source
         (keep_of left.old) (keep_of right.old) (keep_of left.new) (keep_of right.new)) }
@@ -99,7 +99,7 @@ fn compare<L: Source + Drop, R: Source + Drop, K: Keep + Drop>(
     left: Run<K, L>,
     right: Run<K, R>,
     caller: u64,
-) -> Result<Verdict, Fault>
+) -> Result<Verdict, TaskFault>
     ensures found { IfOk result
         (HasAudited K.content K.is_failed K.is_honest L.left R.left caller left right) }
     ensures fault { IfErr result (IsUncompared L.left R.left left right) }
@@ -116,42 +116,42 @@ fn compare<L: Source + Drop, R: Source + Drop, K: Keep + Drop>(
 }
 
 // Reports that the runs are equal, with so many replies.
-fn tell_equal<W: Write>(output: &mut W, count: usize) -> Result<(), Fault>
+fn write_equal<W: Write>(output: &mut W, count: usize) -> Result<(), TaskFault>
     ensures report { OnOk result
         (Appends (W.contents output.old) (W.contents output.new) (equal_line count)) }
-    ensures fault { IfErr result (λ fault. fault ≡ Fault.Write) }
+    ensures fault { IfErr result (λ fault. fault ≡ TaskFault.Write) }
 {
     match writeln!(output, "equal, {count} replies") {
         Ok(()) => Ok(()),
-        Err(_) => Err(Fault::Write),
+        Err(_) => Err(TaskFault::Write),
     }
 }
 
 // Reports that they are apart from a place on.
-fn tell_apart<W: Write>(output: &mut W, step: u64) -> Result<(), Fault>
+fn write_apart<W: Write>(output: &mut W, step: u64) -> Result<(), TaskFault>
     ensures report { OnOk result
         (Appends (W.contents output.old) (W.contents output.new) (apart_line step)) }
-    ensures fault { IfErr result (λ fault. fault ≡ Fault.Write) }
+    ensures fault { IfErr result (λ fault. fault ≡ TaskFault.Write) }
 {
     match writeln!(output, "apart at step {step}") {
         Ok(()) => Ok(()),
-        Err(_) => Err(Fault::Write),
+        Err(_) => Err(TaskFault::Write),
     }
 }
 
 /// Reports a verdict, and gives whether the runs are equal.
-pub fn tell<W: Write>(output: &mut W, verdict: &Verdict) -> Result<bool, Fault>
+pub fn write_verdict<W: Write>(output: &mut W, verdict: &Verdict) -> Result<bool, TaskFault>
     ensures report { IfOk result
         (IsReported (W.contents output.old) (W.contents output.new) verdict.now) }
-    ensures fault { IfErr result (λ fault. fault ≡ Fault.Write) }
+    ensures fault { IfErr result (λ fault. fault ≡ TaskFault.Write) }
 {
     match verdict {
         Verdict::Equal { replies } => {
-            tell_equal(output, replies.len())?;
+            write_equal(output, replies.len())?;
             Ok(true)
         }
         Verdict::Apart { step } => {
-            tell_apart(output, *step)?;
+            write_apart(output, *step)?;
             Ok(false)
         }
     }
@@ -160,25 +160,25 @@ pub fn tell<W: Write>(output: &mut W, verdict: &Verdict) -> Result<bool, Fault>
 /// Compares two runs of messages over new houses as a member sees them, and reports what was found.
 /// Ok is whether they are equal. What is wrong on the left is reported before what is wrong on the
 /// right.
-pub fn tell_compared<L: Source + Drop, R: Source + Drop, W: Write, K: Keep + Drop>(
+pub fn report_comparison<L: Source + Drop, R: Source + Drop, W: Write, K: Keep + Drop>(
     alloc: Global,
     left: Run<K, L>,
     right: Run<K, R>,
     caller: u64,
     output: &mut W,
-) -> Result<bool, Fault>
+) -> Result<bool, TaskFault>
     ensures report { IfOk result
         (HasReported K.content K.is_failed K.is_honest L.left R.left caller left right
         (W.contents output.old) (W.contents output.new)) }
     ensures fault { IfErr result (IsUnreported L.left R.left left right) }
 {
     let verdict = compare(alloc, left, right, caller)?;
-    tell(output, &verdict)
+    write_verdict(output, &verdict)
 }
 
 /// The exit status for what was found: 0 where the runs are equal, and else 1. A fault is written
 /// in its line.
-pub fn status<E: Sink>(errors: &mut E, equal: Result<bool, Fault>) -> u8
+pub fn status<E: Sink>(errors: &mut E, equal: Result<bool, TaskFault>) -> u8
     ensures equal { (result ≡ 0) ↔ (equal ≡ Ok true) }
     ensures within { result ≤ 1 }
 {
@@ -205,5 +205,8 @@ pub fn audit_run<L: Source + Drop, R: Source + Drop, W: Write, E: Sink, K: Keep 
         (W.contents output.old) (W.contents output.new) true }
     ensures within { result ≤ 1 }
 {
-    status(errors, tell_compared(alloc, left, right, caller, output))
+    status(
+        errors,
+        report_comparison(alloc, left, right, caller, output),
+    )
 }

@@ -7,8 +7,8 @@ ghost use Rattle.auction_runs.specs.Faults.{IsOfKeep};
 ghost use Rattle.site.specs.Answers.{zone_of};
 ghost use Rattle.site_serve.specs.Serving.{keep_of};
 
-use crate::audit::{Run, both_begun, messages, status, tell};
-use crate::fault::{Fault, Side};
+use crate::audit::{Run, both_begun, messages, status, write_verdict};
+use crate::fault::{Side, TaskFault};
 use device::{Sink, Source};
 use house_rows::Keep;
 use site::Site;
@@ -22,10 +22,10 @@ fn compare_over_from<L: Source + Drop, R: Source + Drop, K: Keep + Drop>(
     alloc: Global,
     left: &mut Site<K>,
     right: &mut Site<K>,
-    left_source: Result<L, Fault>,
-    right_source: Result<R, Fault>,
+    left_source: Result<L, TaskFault>,
+    right_source: Result<R, TaskFault>,
     caller: u64,
-) -> Result<Verdict, Fault>
+) -> Result<Verdict, TaskFault>
     ensures found { IfOk result (HasFoundFrom K.content K.is_failed K.is_honest L.left R.left caller
         (zone_of left.old) left_source right_source
         (keep_of left.old) (keep_of right.old) (keep_of left.new) (keep_of right.new)) }
@@ -43,7 +43,7 @@ fn compare_from<L: Source + Drop, R: Source + Drop, K: Keep + Drop>(
     left: Run<K, L>,
     right: Run<K, R>,
     caller: u64,
-) -> Result<Verdict, Fault>
+) -> Result<Verdict, TaskFault>
     ensures found { IfOk result
         (HasAuditedFrom K.content K.is_failed K.is_honest L.left R.left caller left right) }
     ensures fault { IfErr result (IsUncompared L.left R.left left right) }
@@ -61,20 +61,20 @@ fn compare_from<L: Source + Drop, R: Source + Drop, K: Keep + Drop>(
 
 // Compares two runs over houses that live on as a member sees them, and reports what was found. Ok
 // is whether they are equal.
-fn tell_compared_from<L: Source + Drop, R: Source + Drop, W: Write, K: Keep + Drop>(
+fn report_comparison_from<L: Source + Drop, R: Source + Drop, W: Write, K: Keep + Drop>(
     alloc: Global,
     left: Run<K, L>,
     right: Run<K, R>,
     caller: u64,
     output: &mut W,
-) -> Result<bool, Fault>
+) -> Result<bool, TaskFault>
     ensures report { IfOk result
         (HasReportedFrom K.content K.is_failed K.is_honest L.left R.left caller left right
         (W.contents output.old) (W.contents output.new)) }
     ensures fault { IfErr result (IsUnreported L.left R.left left right) }
 {
     let verdict = compare_from(alloc, left, right, caller)?;
-    tell(output, &verdict)
+    write_verdict(output, &verdict)
 }
 
 /// Compares two runs of messages over houses that live on, whose histories are alike for a member,
@@ -96,6 +96,6 @@ pub fn audit_from_run<L: Source + Drop, R: Source + Drop, W: Write, E: Sink, K: 
 {
     status(
         errors,
-        tell_compared_from(alloc, left, right, caller, output),
+        report_comparison_from(alloc, left, right, caller, output),
     )
 }

@@ -7,7 +7,7 @@ ghost use Rattle.auction_runs.specs.Printed.{edition_line};
 ghost use Rattle.auction_runs.specs.Tabled.{HasSet, HasTabled, IsTabled, IsTabledOver, IsUndone, IsUntold, MayTable};
 
 use crate::ended::outcome_after_end;
-use crate::fault::{Fault, finish_run};
+use crate::fault::{TaskFault, finish_run};
 use device::Sink;
 use house::decide;
 use house_rows::{Command, Ends, Keep, Rows};
@@ -17,7 +17,7 @@ use std::io::Write;
 const HOUSE: u64 = 0;
 
 // Has the house do what a command asks for at a moment, and gives the newest edition after it.
-fn order<K: Keep>(keep: &mut K, moment: u64, command: &Command) -> Result<u32, Fault>
+fn set_bands<K: Keep>(keep: &mut K, moment: u64, command: &Command) -> Result<u32, TaskFault>
     ensures done { K.is_honest keep.new → IfOk result
         (IsTabled K.content K.may_leave moment command.now keep.old keep.new) }
     ensures fault { IfErr result
@@ -27,7 +27,7 @@ fn order<K: Keep>(keep: &mut K, moment: u64, command: &Command) -> Result<u32, F
     // The fault is matched, since a `?` on what holds a change isn't covered by the borrow check.
     match decide(keep, moment, HOUSE, command) {
         Err(fault) => Err(fault.into()),
-        Ok(Err(refusal)) => Err(Fault::Refused(refusal)),
+        Ok(Err(refusal)) => Err(TaskFault::Refused(refusal)),
         Ok(Ok(change)) => {
             keep.apply(&change)?;
             Ok(keep.newest()?)
@@ -36,19 +36,23 @@ fn order<K: Keep>(keep: &mut K, moment: u64, command: &Command) -> Result<u32, F
 }
 
 // Reports the edition of a table that was set.
-fn tell<W: Write>(output: &mut W, edition: u32) -> Result<(), Fault>
+fn write_edition<W: Write>(output: &mut W, edition: u32) -> Result<(), TaskFault>
     ensures report { OnOk result
         (Appends (W.contents output.old) (W.contents output.new) (edition_line edition)) }
-    ensures fault { IfErr result (λ fault. fault ≡ Fault.Write) }
+    ensures fault { IfErr result (λ fault. fault ≡ TaskFault.Write) }
 {
     match writeln!(output, "edition {edition}") {
         Ok(()) => Ok(()),
-        Err(_) => Err(Fault::Write),
+        Err(_) => Err(TaskFault::Write),
     }
 }
 
 // Sets the table, and ends the keep however that ended.
-fn set<K: Keep + Ends>(mut keep: K, moment: u64, command: &Command) -> (Result<u32, Fault>, K::Left)
+fn set<K: Keep + Ends>(
+    mut keep: K,
+    moment: u64,
+    command: &Command,
+) -> (Result<u32, TaskFault>, K::Left)
     ensures set { IfOk result.0 (HasSet K.content K.is_honest K.may_leave
         (λ last. K.is_ended last result.1) moment command.now keep) }
     ensures fault { IfErr result.0 (λ fault. (left : K)
@@ -56,20 +60,20 @@ fn set<K: Keep + Ends>(mut keep: K, moment: u64, command: &Command) -> (Result<u
     ensures over { IsTabledOver K.content K.is_honest K.may_leave K.is_ended K.is_left moment
         command.now keep result.1 }
 {
-    let edition = order(&mut keep, moment, command);
+    let edition = set_bands(&mut keep, moment, command);
     let (ended, left) = keep.end();
     (outcome_after_end(edition, ended), left)
 }
 
 // Reports the edition of a table, once it is set.
-fn tell_set<W: Write>(output: &mut W, set: Result<u32, Fault>) -> Result<(), Fault>
+fn write_outcome<W: Write>(output: &mut W, set: Result<u32, TaskFault>) -> Result<(), TaskFault>
     ensures report { OnOk result (IfOk set (λ edition.
         Appends (W.contents output.old) (W.contents output.new) (edition_line edition))) }
     ensures set { OnOk result (IsOk set) }
     ensures fault { IfErr result (λ fault. (set ≡ Err fault)
-        ⊎ ((fault ≡ Fault.Write) × IsOk set)) }
+        ⊎ ((fault ≡ TaskFault.Write) × IsOk set)) }
 {
-    tell(output, set?)
+    write_edition(output, set?)
 }
 
 /// Sets a band table in a house, ends its keep, reports the edition, and gives the exit status and
@@ -95,6 +99,6 @@ pub fn bands_run<W: Write, E: Sink, K: Keep + Ends>(
 {
     let command = Command::SetBands { bands };
     let (edition, left) = set(keep, moment, &command);
-    let status = finish_run(errors, tell_set(output, edition));
+    let status = finish_run(errors, write_outcome(output, edition));
     (status, left)
 }

@@ -2,14 +2,14 @@
 ghost use Rattle.std.specs.Prelude.{◌≡◌, ◌⊎◌, Err, Ok, IfErr, IfOk, IsOk, OnOk};
 ghost use Rattle.auction_runs.specs.Faults.{IsEndFault};
 
-use crate::fault::Fault;
+use crate::fault::TaskFault;
 use house_rows::KeepFault;
 
 /// What a run came to, after its keep was ended. A fault of the run goes before one of the end.
 pub fn outcome_after_end<T: Drop>(
-    outcome: Result<T, Fault>,
+    outcome: Result<T, TaskFault>,
     ended: Result<(), KeepFault>,
-) -> Result<T, Fault>
+) -> Result<T, TaskFault>
     ensures same { IfOk result (λ value. outcome ≡ Ok value) }
     ensures ended { OnOk result (IsOk ended) }
     ensures first { IfErr outcome (λ fault. result ≡ Err fault) }

@@ -15,7 +15,7 @@ use steps::BandsFault;
 
 /// Why the program ends at a fault.
 #[derive(Clone, Copy)]
-pub enum Fault {
+pub enum TaskFault {
     /// Memory was refused.
     Memory,
     /// The database or its file failed.
@@ -72,102 +72,102 @@ impl Side {
     }
 }
 
-impl From<KeepFault> for Fault {
+impl From<KeepFault> for TaskFault {
     ghost from_gives = { λ fault report. report ≡ fault_of_keep fault };
 
-    fn from(fault: KeepFault) -> Fault {
+    fn from(fault: KeepFault) -> TaskFault {
         match fault {
-            KeepFault::Memory => Fault::Memory,
-            KeepFault::Store => Fault::Store,
-            KeepFault::Damaged => Fault::Damaged,
+            KeepFault::Memory => TaskFault::Memory,
+            KeepFault::Store => TaskFault::Store,
+            KeepFault::Damaged => TaskFault::Damaged,
         }
     }
 }
 
-impl From<SettingsFault> for Fault {
+impl From<SettingsFault> for TaskFault {
     ghost from_gives = { λ fault report. report ≡ fault_of_settings fault };
 
-    fn from(fault: SettingsFault) -> Fault {
+    fn from(fault: SettingsFault) -> TaskFault {
         match fault {
-            SettingsFault::Bands(fault) => Fault::Bands(fault),
-            SettingsFault::Zone => Fault::Zone,
-            SettingsFault::Memory => Fault::Memory,
+            SettingsFault::Bands(fault) => TaskFault::Bands(fault),
+            SettingsFault::Zone => TaskFault::Zone,
+            SettingsFault::Memory => TaskFault::Memory,
         }
     }
 }
 
-impl From<ServeFault> for Fault {
+impl From<ServeFault> for TaskFault {
     ghost from_gives = { λ fault report. report ≡ fault_of_serving fault };
 
-    fn from(fault: ServeFault) -> Fault {
+    fn from(fault: ServeFault) -> TaskFault {
         match fault {
-            ServeFault::Read => Fault::Read,
-            ServeFault::Write => Fault::Write,
-            ServeFault::Memory => Fault::Memory,
+            ServeFault::Read => TaskFault::Read,
+            ServeFault::Write => TaskFault::Write,
+            ServeFault::Memory => TaskFault::Memory,
         }
     }
 }
 
-impl From<ImportFault> for Fault {
+impl From<ImportFault> for TaskFault {
     ghost from_gives = { λ fault report. report ≡ fault_of_import fault };
 
-    fn from(fault: ImportFault) -> Fault {
+    fn from(fault: ImportFault) -> TaskFault {
         match fault {
-            ImportFault::Memory => Fault::Memory,
-            ImportFault::Store => Fault::Store,
-            ImportFault::Damaged => Fault::Damaged,
-            ImportFault::Member => Fault::Member,
-            ImportFault::Head => Fault::Head,
-            ImportFault::Csv => Fault::Csv,
-            ImportFault::Read => Fault::Read,
-            ImportFault::Write => Fault::Write,
+            ImportFault::Memory => TaskFault::Memory,
+            ImportFault::Store => TaskFault::Store,
+            ImportFault::Damaged => TaskFault::Damaged,
+            ImportFault::Member => TaskFault::Member,
+            ImportFault::Head => TaskFault::Head,
+            ImportFault::Csv => TaskFault::Csv,
+            ImportFault::Read => TaskFault::Read,
+            ImportFault::Write => TaskFault::Write,
         }
     }
 }
 
-impl From<StatementFault> for Fault {
+impl From<StatementFault> for TaskFault {
     ghost from_gives = { λ fault report. report ≡ fault_of_statement fault };
 
-    fn from(fault: StatementFault) -> Fault {
+    fn from(fault: StatementFault) -> TaskFault {
         match fault {
-            StatementFault::Memory => Fault::Memory,
-            StatementFault::Store => Fault::Store,
-            StatementFault::Damaged => Fault::Damaged,
-            StatementFault::Order => Fault::Order,
-            StatementFault::Member => Fault::Member,
+            StatementFault::Memory => TaskFault::Memory,
+            StatementFault::Store => TaskFault::Store,
+            StatementFault::Damaged => TaskFault::Damaged,
+            StatementFault::Order => TaskFault::Order,
+            StatementFault::Member => TaskFault::Member,
         }
     }
 }
 
-impl From<SettleFault> for Fault {
+impl From<SettleFault> for TaskFault {
     ghost from_gives = { λ fault report. report ≡ fault_of_settling fault };
 
-    fn from(fault: SettleFault) -> Fault {
+    fn from(fault: SettleFault) -> TaskFault {
         match fault {
-            SettleFault::Date => Fault::Date,
-            SettleFault::Order => Fault::Order,
-            SettleFault::Zone => Fault::Zone,
-            SettleFault::Memory => Fault::Memory,
-            SettleFault::Write => Fault::Write,
+            SettleFault::Date => TaskFault::Date,
+            SettleFault::Order => TaskFault::Order,
+            SettleFault::Zone => TaskFault::Zone,
+            SettleFault::Memory => TaskFault::Memory,
+            SettleFault::Write => TaskFault::Write,
         }
     }
 }
 
-impl From<AuditFault> for Fault {
+impl From<AuditFault> for TaskFault {
     ghost from_gives = { λ fault report. report ≡ fault_of_audit fault };
 
     // A house that isn't new is none that the program made.
-    fn from(fault: AuditFault) -> Fault {
+    fn from(fault: AuditFault) -> TaskFault {
         match fault {
-            AuditFault::Memory => Fault::Memory,
-            AuditFault::Store => Fault::Store,
-            AuditFault::NotNew => Fault::Damaged,
+            AuditFault::Memory => TaskFault::Memory,
+            AuditFault::Store => TaskFault::Store,
+            AuditFault::NotNew => TaskFault::Damaged,
         }
     }
 }
 
 // Hands on the line of a fault.
-fn tell_fault<E: Sink>(errors: &mut E, fault: Fault) -> Result<(), Failure>
+fn write_fault<E: Sink>(errors: &mut E, fault: TaskFault) -> Result<(), Failure>
     ensures told { IsTold E.Sink errors.old errors.new fault }
 {
     give_line(errors, fault)?;
@@ -175,7 +175,7 @@ fn tell_fault<E: Sink>(errors: &mut E, fault: Fault) -> Result<(), Failure>
 }
 
 /// Ends a run, and gives its exit status: 0, or 1 for a fault, whose line is handed on.
-pub fn finish_run<E: Sink>(errors: &mut E, outcome: Result<(), Fault>) -> u8
+pub fn finish_run<E: Sink>(errors: &mut E, outcome: Result<(), TaskFault>) -> u8
     ensures done { (result ≡ 0) ↔ IsOk outcome }
     ensures fault { (result ≡ 1) ↔ IsErr outcome }
     ensures quiet { IsOk outcome → errors.new ≡ errors.old }
@@ -186,7 +186,7 @@ pub fn finish_run<E: Sink>(errors: &mut E, outcome: Result<(), Fault>) -> u8
         Ok(()) => 0,
         Err(fault) => {
             // Where standard error fails too there is nobody left to report to.
-            let _ = tell_fault(errors, fault);
+            let _ = write_fault(errors, fault);
             1
         }
     }

@@ -4,14 +4,14 @@ ghost use Rattle.std.specs.Io.KnownBytes.{Keeps};
 ghost use Rattle.auction_runs.specs.Faults.{fault_of_import};
 ghost use Rattle.auction_runs.specs.Lines.{IsTold};
 ghost use Rattle.auction_runs.specs.Listed.{HasAll, HasDealt, HasOrderedOnly, HasPrinted, HasTaken, IsDealtPart, IsKnown, IsOrderedOver};
-ghost use Rattle.auction_runs.specs.declared.fault.Fault.{Fault as ReportedFault};
-ghost use Rattle.house_rows.specs.Keeping.{IsRead};
+ghost use Rattle.auction_runs.specs.declared.fault.TaskFault.{TaskFault as ReportedFault};
 ghost use Rattle.office.specs.declared.fault.ImportFault.{ImportFault as TheFault};
 ghost use Rattle.office.specs.declared.tally.Imported.{Imported as TheReport};
 ghost use Rattle.site.specs.Answers.{IsReadable};
+ghost use Rattle.house_rows.specs.Answers.{Reads};
 
 use crate::ended::outcome_after_end;
-use crate::fault::{Fault, finish_run};
+use crate::fault::{TaskFault, finish_run};
 use crate::serve::begin_site;
 use device::Sink;
 use house_rows::{Ends, Keep, KeepFault};
@@ -23,17 +23,17 @@ use std::io::{Read, Write};
 fn hand_on<W: Write>(
     output: &mut W,
     imported: Result<Imported, ImportFault>,
-) -> Result<Imported, Fault>
+) -> Result<Imported, TaskFault>
     ensures same { IfOk result (λ report. imported ≡ Ok report) }
     ensures fault { IfErr result (λ fault. ((importing : TheFault) × (imported ≡ Err importing)
         × (fault ≡ fault_of_import importing))
-        ⊎ ((report : TheReport) × (imported ≡ Ok report) × (fault ≡ Fault.Write))) }
+        ⊎ ((report : TheReport) × (imported ≡ Ok report) × (fault ≡ TaskFault.Write))) }
     ensures kept { Keeps (W.contents output.old) (W.contents output.new) }
 {
     let flushed = output.flush();
     let report = imported?;
     if flushed.is_err() {
-        return Err(Fault::Write);
+        return Err(TaskFault::Write);
     }
     Ok(report)
 }
@@ -42,15 +42,15 @@ fn hand_on<W: Write>(
 // house is reported before what else is asked of it.
 fn check_import<R: Drop, K: Keep>(
     keep: &mut K,
-    lots: Result<R, Fault>,
+    lots: Result<R, TaskFault>,
     member: u64,
-) -> Result<R, Fault>
+) -> Result<R, TaskFault>
     ensures zone { K.is_honest keep.old → OnOk result
         (IsReadable (K.content keep.old).settings.zone) }
     ensures known { OnOk result
         (IsKnown K.content K.is_failed K.is_honest K.may_leave member keep.old keep.new) }
     ensures same { IfOk result (λ reader. lots ≡ Ok reader) }
-    ensures read { IsRead K.content K.is_failed K.is_honest K.may_leave keep.old keep.new }
+    ensures read { Reads K.Keep keep.old keep.new }
 {
     check_zone(keep)?;
     check_member(keep, member)?;
@@ -61,10 +61,10 @@ fn check_import<R: Drop, K: Keep>(
 fn list_all<R: Read + Drop, W: Write, K: Keep + Drop>(
     alloc: Global,
     keep: K,
-    lots: Result<R, Fault>,
+    lots: Result<R, TaskFault>,
     by: Lister,
     output: &mut W,
-) -> (Result<Imported, Fault>, K)
+) -> (Result<Imported, TaskFault>, K)
     ensures listed { IfOk result.0 (λ report. (reader : R) → lots ≡ Ok reader → (text : List ℕ)
         → R.remaining reader ≡ Some text
         → HasDealt K.content K.is_failed K.is_honest K.may_leave (λ last. last ≡ result.1) by text
@@ -102,7 +102,7 @@ fn status(report: Imported) -> u8
 // The exit status for what became of a file, where the keep was ended.
 fn finish<E: Sink>(
     errors: &mut E,
-    listed: Result<Imported, Fault>,
+    listed: Result<Imported, TaskFault>,
     ended: Result<(), KeepFault>,
 ) -> u8
     ensures had { result ≡ 0 → IfOk listed (λ report. report.refused ≡ 0) }
@@ -125,7 +125,7 @@ fn finish<E: Sink>(
 pub fn import_run<R: Read + Drop, W: Write, E: Sink, K: Keep + Drop + Ends>(
     alloc: Global,
     keep: K,
-    lots: Result<R, Fault>,
+    lots: Result<R, TaskFault>,
     by: Lister,
     output: &mut W,
     errors: &mut E,

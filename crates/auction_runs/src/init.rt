@@ -6,30 +6,30 @@ ghost use Rattle.std.specs.Io.KnownBytes.{Appends};
 ghost use Rattle.auction_runs.specs.Over.{IsOver};
 ghost use Rattle.auction_runs.specs.Printed.{created};
 
-use crate::fault::{Fault, finish_run};
+use crate::fault::{TaskFault, finish_run};
 use device::Sink;
 use house_rows::{Ends, KeepFault};
 use std::io::Write;
 
 // Reports that a house is made.
-fn tell<W: Write>(output: &mut W) -> Result<(), Fault>
+fn write_created<W: Write>(output: &mut W) -> Result<(), TaskFault>
     ensures report { OnOk result (Appends (W.contents output.old) (W.contents output.new) created) }
-    ensures fault { IfErr result (λ fault. fault ≡ Fault.Write) }
+    ensures fault { IfErr result (λ fault. fault ≡ TaskFault.Write) }
 {
     match writeln!(output, "created") {
         Ok(()) => Ok(()),
-        Err(_) => Err(Fault::Write),
+        Err(_) => Err(TaskFault::Write),
     }
 }
 
 // Reports that the house is made, where its keep was ended.
-fn finish<W: Write>(output: &mut W, ended: Result<(), KeepFault>) -> Result<(), Fault>
+fn finish<W: Write>(output: &mut W, ended: Result<(), KeepFault>) -> Result<(), TaskFault>
     ensures report { OnOk result (Appends (W.contents output.old) (W.contents output.new) created) }
     ensures ended { OnOk result (IsOk ended) }
     ensures fault { IfErr result (IsOfEnded ended) }
 {
     ended?;
-    tell(output)
+    write_created(output)
 }
 
 /// Ends the keep of a new house, reports that it is made, and gives the exit status and what is left

@@ -27,7 +27,7 @@ mod upgrade;
 pub use audit::{Run, audit_run};
 pub use audit_from::audit_from_run;
 pub use bands::bands_run;
-pub use fault::{Fault, Side, finish_run};
+pub use fault::{Side, TaskFault, finish_run};
 pub use import::import_run;
 pub use init::init_run;
 pub use replay::replay_run;

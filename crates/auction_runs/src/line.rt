@@ -4,7 +4,7 @@ ghost use Rattle.std.specs.Io.KnownBytes.{Appends};
 ghost use Rattle.auction_runs.specs.Lines.{bands_line, line_of};
 ghost use Rattle.device.specs.Given.{AppendsBeginning};
 
-use crate::fault::Fault;
+use crate::fault::TaskFault;
 use device::{Failure, Sink, give_all};
 use itoa::Buffer;
 use steps::BandsFault;
@@ -49,7 +49,7 @@ fn give_bands<E: Sink>(errors: &mut E, fault: BandsFault) -> Result<(), Failure>
 }
 
 /// Gives the line of a fault.
-pub(crate) fn give_line<E: Sink>(errors: &mut E, fault: Fault) -> Result<(), Failure>
+pub(crate) fn give_line<E: Sink>(errors: &mut E, fault: TaskFault) -> Result<(), Failure>
     ensures whole { OnOk result (Appends (E.taken errors.old) (E.taken errors.new)
         (line_of fault ++ 10 ∷ [])) }
     ensures part { AppendsBeginning (E.taken errors.old) (E.taken errors.new)
@@ -57,18 +57,18 @@ pub(crate) fn give_line<E: Sink>(errors: &mut E, fault: Fault) -> Result<(), Fai
     ensures failed { IsErr result → E.has_failed errors.new ≡ true }
 {
     match fault {
-        Fault::Memory => give_all(errors, b"auction: memory\n"),
-        Fault::Store => give_all(errors, b"auction: file: Store\n"),
-        Fault::Damaged => give_all(errors, b"auction: file: Damaged\n"),
-        Fault::Bands(fault) => give_bands(errors, fault),
-        Fault::Zone => give_all(errors, b"auction: zone\n"),
-        Fault::Read => give_all(errors, b"auction: input: Read\n"),
-        Fault::Write => give_all(errors, b"auction: output: Write\n"),
-        Fault::Socket => give_all(errors, b"auction: socket\n"),
-        Fault::Date => give_all(errors, b"auction: date\n"),
-        Fault::Order => give_all(errors, b"auction: order\n"),
-        Fault::Member => give_all(errors, b"auction: no member\n"),
-        Fault::Refused(refusal) => {
+        TaskFault::Memory => give_all(errors, b"auction: memory\n"),
+        TaskFault::Store => give_all(errors, b"auction: file: Store\n"),
+        TaskFault::Damaged => give_all(errors, b"auction: file: Damaged\n"),
+        TaskFault::Bands(fault) => give_bands(errors, fault),
+        TaskFault::Zone => give_all(errors, b"auction: zone\n"),
+        TaskFault::Read => give_all(errors, b"auction: input: Read\n"),
+        TaskFault::Write => give_all(errors, b"auction: output: Write\n"),
+        TaskFault::Socket => give_all(errors, b"auction: socket\n"),
+        TaskFault::Date => give_all(errors, b"auction: date\n"),
+        TaskFault::Order => give_all(errors, b"auction: order\n"),
+        TaskFault::Member => give_all(errors, b"auction: no member\n"),
+        TaskFault::Refused(refusal) => {
             give_parts(
                 errors,
                 b"auction: refused ",
@@ -76,9 +76,9 @@ pub(crate) fn give_line<E: Sink>(errors: &mut E, fault: Fault) -> Result<(), Fai
                 b"\n",
             )
         }
-        Fault::Head => give_all(errors, b"auction: lots: Head\n"),
-        Fault::Csv => give_all(errors, b"auction: lots: Csv\n"),
-        Fault::Broken(side) => {
+        TaskFault::Head => give_all(errors, b"auction: lots: Head\n"),
+        TaskFault::Csv => give_all(errors, b"auction: lots: Csv\n"),
+        TaskFault::Broken(side) => {
             let side = side.name().as_bytes();
             give_parts(errors, b"auction: ", side, b" is no list of messages\n")
         }

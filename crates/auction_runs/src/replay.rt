@@ -7,10 +7,11 @@ ghost use Rattle.auction_runs.specs.Faults.{IsOfKeep, IsOfReplay};
 ghost use Rattle.auction_runs.specs.Replayed.{HasRecorded, HasReplayed, IsRecorded, IsRecordedPart, IsReplayedPart};
 ghost use Rattle.auction_runs.specs.Setup.{IsSetUp};
 ghost use Rattle.settle.specs.Zoned.{IsZoneOf};
-ghost use Rattle.site.specs.Answers.{IsStep, zone_of};
+ghost use Rattle.site.specs.Answers.{zone_of};
+ghost use Rattle.site.specs.Histories.{Steps};
 ghost use Rattle.site_serve.specs.Serving.{IsFlushed, keep_of};
 
-use crate::fault::{Fault, finish_run};
+use crate::fault::{TaskFault, finish_run};
 use crate::serve::site_over;
 use crate::setup::set_up;
 use auction_words::Replay;
@@ -21,9 +22,9 @@ use site_serve::serve;
 use std::alloc::Global;
 
 // Sets the house up, where that is asked for.
-fn prepare<K: Keep + Drop>(site: &mut Site<K>, asked: Replay) -> Result<(), Fault>
+fn prepare<K: Keep + Drop>(site: &mut Site<K>, asked: Replay) -> Result<(), TaskFault>
     ensures set_up { OnOk result
-        (IsSetUp (IsStep K.content K.is_failed K.is_honest K.may_leave (zone_of site.old))
+        (IsSetUp (Steps K.Keep (zone_of site.old))
         asked.preset (keep_of site.old) (keep_of site.new)) }
     ensures fault { IfErr result IsOfKeep }
     ensures zone { zone_of site.new ≡ zone_of site.old }
@@ -45,7 +46,7 @@ fn give_record<W: Sink>(sink: &mut W, text: &[u8]) -> Result<(), Failure>
 }
 
 // Appends the public record and a newline.
-fn append_record<W: Sink, K: Keep + Drop>(sink: &mut W, site: &mut Site<K>) -> Result<(), Fault>
+fn append_record<W: Sink, K: Keep + Drop>(sink: &mut W, site: &mut Site<K>) -> Result<(), TaskFault>
     ensures recorded { OnOk result
         (HasRecorded K.content K.is_failed K.is_honest K.may_leave
         (W.taken sink.old) (W.taken sink.new) (keep_of site.old) (keep_of site.new)) }
@@ -57,7 +58,7 @@ fn append_record<W: Sink, K: Keep + Drop>(sink: &mut W, site: &mut Site<K>) -> R
     let record = site.record()?;
     match give_record(sink, record.as_slice()) {
         Ok(()) => Ok(()),
-        Err(_) => Err(Fault::Write),
+        Err(_) => Err(TaskFault::Write),
     }
 }
 
@@ -66,7 +67,7 @@ fn finish<W: Sink, K: Keep + Drop>(
     sink: &mut W,
     site: &mut Site<K>,
     asked: Replay,
-) -> Result<(), Fault>
+) -> Result<(), TaskFault>
     ensures recorded { OnOk result
         (IsRecorded K.content K.is_failed K.is_honest K.may_leave asked.record
         (W.taken sink.old) (W.taken sink.new) (keep_of site.old) (keep_of site.new)) }
@@ -89,7 +90,7 @@ fn answer_over<R: Source, W: Sink, K: Keep + Drop>(
     sink: &mut W,
     site: &mut Site<K>,
     asked: Replay,
-) -> Result<(), Fault>
+) -> Result<(), TaskFault>
     ensures replayed { (K.is_honest (keep_of site.old)
         → IsZoneOf (K.content (keep_of site.old)).settings.zone (zone_of site.old))
         → OnOk result (IfSome (R.left source.old) (λ stream.
@@ -115,7 +116,7 @@ fn answer_all<R: Source, W: Sink, K: Keep + Drop>(
     sink: &mut W,
     keep: K,
     asked: Replay,
-) -> Result<(), Fault>
+) -> Result<(), TaskFault>
     ensures replayed { OnOk result (IfSome (R.left source.old) (λ stream.
         HasReplayed K.content K.is_failed K.is_honest K.may_leave asked stream
         (W.taken sink.old) (W.taken sink.new) keep)) }

@@ -12,7 +12,7 @@ ghost use Rattle.site_connections.specs.Turns.{Takes, TakesEach, TakesWell};
 ghost use Rattle.site_serve.specs.Serving.{keep_of};
 
 use crate::ended::outcome_after_end;
-use crate::fault::{Fault, finish_run};
+use crate::fault::{TaskFault, finish_run};
 use device::Sink;
 use house_rows::{Ends, Keep, KeepFault};
 use site::Site;
@@ -24,7 +24,7 @@ use std::io::Write;
 pub const MOST: u64 = 10_000;
 
 /// The site over a keep. After an error the keep is given back.
-pub fn begin_site<K: Keep + Drop>(alloc: Global, keep: K) -> Result<Site<K>, (Fault, K)>
+pub fn begin_site<K: Keep + Drop>(alloc: Global, keep: K) -> Result<Site<K>, (TaskFault, K)>
     ensures keep { IfOk result (λ site. keep_of site ≡ keep) }
     ensures zone { K.is_honest keep → IfOk result (λ site.
         IsZoneOf (K.content keep).settings.zone (zone_of site)) }
@@ -33,12 +33,12 @@ pub fn begin_site<K: Keep + Drop>(alloc: Global, keep: K) -> Result<Site<K>, (Fa
 {
     match Site::new(alloc, keep) {
         Ok(site) => Ok(site),
-        Err((fault, keep)) => Err((Fault::from(fault), keep)),
+        Err((fault, keep)) => Err((TaskFault::from(fault), keep)),
     }
 }
 
 /// As `begin_site`, and after an error the keep is dropped.
-pub fn site_over<K: Keep + Drop>(alloc: Global, keep: K) -> Result<Site<K>, Fault>
+pub fn site_over<K: Keep + Drop>(alloc: Global, keep: K) -> Result<Site<K>, TaskFault>
     ensures keep { IfOk result (λ site. keep_of site ≡ keep) }
     ensures zone { K.is_honest keep → IfOk result (λ site.
         IsZoneOf (K.content keep).settings.zone (zone_of site)) }
@@ -51,26 +51,26 @@ pub fn site_over<K: Keep + Drop>(alloc: Global, keep: K) -> Result<Site<K>, Faul
 }
 
 // Reports that connections are waited for.
-fn tell_listening<W: Write>(output: &mut W) -> Result<(), Fault>
+fn write_listening<W: Write>(output: &mut W) -> Result<(), TaskFault>
     ensures report { OnOk result
         (Appends (W.contents output.old) (W.contents output.new) listening) }
-    ensures fault { IfErr result (λ fault. fault ≡ Fault.Write) }
+    ensures fault { IfErr result (λ fault. fault ≡ TaskFault.Write) }
 {
     match writeln!(output, "listening") {
         Ok(()) => Ok(()),
-        Err(_) => Err(Fault::Write),
+        Err(_) => Err(TaskFault::Write),
     }
 }
 
 // Reports how many connections were answered.
-fn tell_served<W: Write>(output: &mut W, count: u64) -> Result<(), Fault>
+fn write_served<W: Write>(output: &mut W, count: u64) -> Result<(), TaskFault>
     ensures report { OnOk result
         (Appends (W.contents output.old) (W.contents output.new) (served count)) }
-    ensures fault { IfErr result (λ fault. fault ≡ Fault.Write) }
+    ensures fault { IfErr result (λ fault. fault ≡ TaskFault.Write) }
 {
     match writeln!(output, "served {count}") {
         Ok(()) => Ok(()),
-        Err(_) => Err(Fault::Write),
+        Err(_) => Err(TaskFault::Write),
     }
 }
 
@@ -80,7 +80,7 @@ fn serve_all<C: Connections, K: Keep + Drop>(
     connections: &mut C,
     count: u64,
     site: &mut Site<K>,
-) -> Result<(), Fault>
+) -> Result<(), TaskFault>
     ensures each { OnOk result (TakesEach (TakesWell K.is_failed (Takes K.Keep C.Input.Source
         C.Output.Sink C.accepts C.ends (zone_of site.old) MOST)) count
         (connections.old, keep_of site.old) (connections.new, keep_of site.new)) }
@@ -90,8 +90,8 @@ fn serve_all<C: Connections, K: Keep + Drop>(
 {
     match serve_each(alloc, connections, count, site, MOST) {
         Ok(()) => Ok(()),
-        Err(TurnFault::Accept) => Err(Fault::Socket),
-        Err(TurnFault::Store) => Err(Fault::Store),
+        Err(TurnFault::Accept) => Err(TaskFault::Socket),
+        Err(TurnFault::Store) => Err(TaskFault::Store),
     }
 }
 
@@ -102,7 +102,7 @@ fn listen<W: Write, C: Connections, K: Keep + Drop>(
     count: u64,
     output: &mut W,
     site: &mut Site<K>,
-) -> Result<(), Fault>
+) -> Result<(), TaskFault>
     ensures report { OnOk result
         (Appends (W.contents output.old) (W.contents output.new) listening) }
     ensures each { OnOk result (TakesEach (TakesWell K.is_failed (Takes K.Keep C.Input.Source
@@ -112,7 +112,7 @@ fn listen<W: Write, C: Connections, K: Keep + Drop>(
         C.Output.Sink C.accepts C.ends (zone_of site.old) MOST) count
         (connections.old, keep_of site.old) (keep_of site.new)) }
 {
-    tell_listening(output)?;
+    write_listening(output)?;
     serve_all(alloc, connections, count, site)
 }
 
@@ -127,7 +127,7 @@ pub fn answer_each<W: Write, C: Connections, K: Keep + Drop>(
     count: u64,
     output: &mut W,
     site: Site<K>,
-) -> (Result<(), Fault>, K)
+) -> (Result<(), TaskFault>, K)
     ensures report { OnOk result.0
         (Appends (W.contents output.old) (W.contents output.new) listening) }
     ensures each { OnOk result.0 (TakesEach (TakesWell K.is_failed (Takes K.Keep C.Input.Source
@@ -145,10 +145,10 @@ pub fn answer_each<W: Write, C: Connections, K: Keep + Drop>(
 // Reports how many connections were answered, where they were and the keep was ended.
 fn finish<W: Write>(
     output: &mut W,
-    answered: Result<(), Fault>,
+    answered: Result<(), TaskFault>,
     ended: Result<(), KeepFault>,
     count: u64,
-) -> Result<(), Fault>
+) -> Result<(), TaskFault>
     ensures report { OnOk result
         (Appends (W.contents output.old) (W.contents output.new) (served count)) }
     ensures answered { OnOk result (IsOk answered) }
@@ -157,7 +157,7 @@ fn finish<W: Write>(
     ensures fault { IfErr result (λ fault. (answered ≡ Err fault) ⊎ IsOfEnded ended fault) }
 {
     outcome_after_end(answered, ended)?;
-    tell_served(output, count)
+    write_served(output, count)
 }
 
 /// Ends the keep over which connections were answered, reports how many were asked for where all
@@ -166,7 +166,7 @@ fn finish<W: Write>(
 pub fn serve_run<W: Write, E: Sink, K: Ends>(
     output: &mut W,
     errors: &mut E,
-    answered: Result<(), Fault>,
+    answered: Result<(), TaskFault>,
     keep: K,
     count: u64,
 ) -> (u8, K::Left)

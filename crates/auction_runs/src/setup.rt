@@ -2,10 +2,11 @@
 ghost use Rattle.std.specs.Prelude.{◌≡◌, true, IfErr, OnOk};
 ghost use Rattle.auction_runs.specs.Faults.{IsOfKeep};
 ghost use Rattle.auction_runs.specs.Setup.{IsCreated, IsSetUp, IsTaken};
-ghost use Rattle.site.specs.Answers.{IsStep, zone_of};
+ghost use Rattle.site.specs.Answers.{zone_of};
+ghost use Rattle.site.specs.Histories.{Steps};
 ghost use Rattle.site_serve.specs.Serving.{keep_of};
 
-use crate::fault::Fault;
+use crate::fault::TaskFault;
 use house_rows::Keep;
 use site::Site;
 use wire::{failed_store, no_memory};
@@ -32,25 +33,25 @@ pub(crate) const ATLAS: &str =
     {\"category\":1,\"end\":5000,\"lot\":\"A1\",\"start\":500,\"text\":\"\",\"title\":\"Atlas\"}";
 
 // Whether a message of the setup was taken, by its answer.
-fn check_answer(answer: &[u8]) -> Result<(), Fault>
+fn check_answer(answer: &[u8]) -> Result<(), TaskFault>
     ensures taken { OnOk result (IsCreated answer.now) }
     ensures fault { IfErr result IsOfKeep }
 {
     if answer.starts_with(b"HTTP/1.1 201 ") {
         Ok(())
     } else if answer == no_memory(false) {
-        Err(Fault::Memory)
+        Err(TaskFault::Memory)
     } else if answer == failed_store(false) {
-        Err(Fault::Store)
+        Err(TaskFault::Store)
     } else {
-        Err(Fault::Damaged)
+        Err(TaskFault::Damaged)
     }
 }
 
 // Has a message of the setup answered, which has to be taken.
-fn order<K: Keep + Drop>(site: &mut Site<K>, message: &str) -> Result<(), Fault>
+fn send<K: Keep + Drop>(site: &mut Site<K>, message: &str) -> Result<(), TaskFault>
     ensures taken { OnOk result
-        (IsTaken (IsStep K.content K.is_failed K.is_honest K.may_leave (zone_of site.old))
+        (IsTaken (Steps K.Keep (zone_of site.old))
         (keep_of site.old) message.now (keep_of site.new)) }
     ensures fault { IfErr result IsOfKeep }
     ensures zone { zone_of site.new ≡ zone_of site.old }
@@ -61,16 +62,16 @@ fn order<K: Keep + Drop>(site: &mut Site<K>, message: &str) -> Result<(), Fault>
 /// Sets a new house up: three members, a category and an item of the first member.
 ///
 /// Damaged is answered where the house isn't new.
-pub fn set_up<K: Keep + Drop>(site: &mut Site<K>) -> Result<(), Fault>
+pub fn set_up<K: Keep + Drop>(site: &mut Site<K>) -> Result<(), TaskFault>
     ensures taken { OnOk result
-        (IsSetUp (IsStep K.content K.is_failed K.is_honest K.may_leave (zone_of site.old))
+        (IsSetUp (Steps K.Keep (zone_of site.old))
         true (keep_of site.old) (keep_of site.new)) }
     ensures fault { IfErr result IsOfKeep }
     ensures zone { zone_of site.new ≡ zone_of site.old }
 {
-    order(site, ANA)?;
-    order(site, BEN)?;
-    order(site, CID)?;
-    order(site, BOOKS)?;
-    order(site, ATLAS)
+    send(site, ANA)?;
+    send(site, BEN)?;
+    send(site, CID)?;
+    send(site, BOOKS)?;
+    send(site, ATLAS)
 }

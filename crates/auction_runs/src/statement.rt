@@ -6,10 +6,10 @@ ghost use Rattle.settle.specs.Calendar.{day_text};
 ghost use Rattle.auction_runs.specs.Inquired.{IsUnasked};
 ghost use Rattle.auction_runs.specs.Over.{IsReadOver};
 ghost use Rattle.auction_runs.specs.Stated.{HasRead, HasStated, IsAccount, IsUnread, IsUnstated, IsUnwritten, account_text};
-ghost use Rattle.house_rows.specs.Keeping.{IsRead};
+ghost use Rattle.house_rows.specs.Answers.{Reads};
 
 use crate::ended::outcome_after_end;
-use crate::fault::{Fault, finish_run};
+use crate::fault::{TaskFault, finish_run};
 use auction_words::StatementWords;
 use device::Sink;
 use house_rows::{Ends, Keep};
@@ -33,7 +33,7 @@ pub struct Inquiry {
 impl Inquiry {
     /// What is asked for by words. A day that is none is reported before a period that ends before
     /// it begins.
-    pub fn read(words: &StatementWords<'_>) -> Result<Inquiry, Fault>
+    pub fn read(words: &StatementWords<'_>) -> Result<Inquiry, TaskFault>
         ensures member { IfOk result (λ i. i.member ≡ words.now.member) }
         ensures from { IfOk result (λ i. words.now.from.now ≡ day_text i.from) }
         ensures to { IfOk result (λ i. words.now.to.now ≡ day_text i.to) }
@@ -44,7 +44,7 @@ impl Inquiry {
         let from = Day::read(words.from)?;
         let to = Day::read(words.to)?;
         if to < from {
-            return Err(Fault::Order);
+            return Err(TaskFault::Order);
         }
         Ok(Inquiry {
             member: words.member,
@@ -61,7 +61,7 @@ fn write_form<W: Sink>(
     sink: &mut W,
     statement: &Statement,
     csv: bool,
-) -> Result<(), Fault>
+) -> Result<(), TaskFault>
     ensures written { OnOk result
         (Appends (W.taken sink.old) (W.taken sink.new) (account_text csv statement.now)) }
     ensures fault { IfErr result IsUnwritten }
@@ -79,21 +79,25 @@ fn write<W: Sink>(
     sink: &mut W,
     statement: &Statement,
     csv: bool,
-) -> Result<(), Fault>
+) -> Result<(), TaskFault>
     ensures written { OnOk result
         (Appends (W.taken sink.old) (W.taken sink.new) (account_text csv statement.now)) }
     ensures handed_on { OnOk result (W.handed_on sink.new ≡ W.taken sink.new) }
     ensures fault { IfErr result IsUnwritten }
 {
     write_form(alloc, sink, statement, csv)?;
-    sink.flush().map_err(|_| Fault::Write)
+    sink.flush().map_err(|_| TaskFault::Write)
 }
 
 // The statement from a keep.
-fn read_statement<K: Keep>(alloc: Global, keep: &mut K, asked: Inquiry) -> Result<Statement, Fault>
+fn read_statement<K: Keep>(
+    alloc: Global,
+    keep: &mut K,
+    asked: Inquiry,
+) -> Result<Statement, TaskFault>
     ensures shown { K.is_honest keep.new → IfOk result (IsAccount (K.content keep.old) asked) }
     ensures fault { IfErr result (IsUnread K.content K.is_honest asked keep.old keep.new) }
-    ensures read { IsRead K.content K.is_failed K.is_honest K.may_leave keep.old keep.new }
+    ensures read { Reads K.Keep keep.old keep.new }
 {
     Ok(statement(alloc, keep, asked.member, asked.from, asked.to)?)
 }
@@ -103,7 +107,7 @@ fn make_statement<K: Keep + Drop + Ends>(
     alloc: Global,
     keep: K,
     asked: Inquiry,
-) -> (Result<Statement, Fault>, K::Left)
+) -> (Result<Statement, TaskFault>, K::Left)
     ensures made { IfOk result.0 (HasRead K.content K.is_failed K.is_honest K.may_leave
         (λ last. K.is_ended last result.1) asked keep) }
     ensures fault { IfErr result.0 (λ fault. (left : K)
@@ -121,9 +125,9 @@ fn make_statement<K: Keep + Drop + Ends>(
 fn write_made<W: Sink>(
     alloc: Global,
     sink: &mut W,
-    made: Result<Statement, Fault>,
+    made: Result<Statement, TaskFault>,
     csv: bool,
-) -> Result<(), Fault>
+) -> Result<(), TaskFault>
     ensures written { OnOk result (IfOk made (λ statement.
         Appends (W.taken sink.old) (W.taken sink.new) (account_text csv statement))) }
     ensures handed_on { OnOk result (W.handed_on sink.new ≡ W.taken sink.new) }

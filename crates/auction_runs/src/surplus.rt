@@ -9,7 +9,7 @@ ghost use Rattle.site.specs.Answers.{zone_of};
 ghost use Rattle.site_serve.specs.Serving.{keep_of};
 
 use crate::audit::{both_begun, messages, status};
-use crate::fault::{Fault, Side};
+use crate::fault::{Side, TaskFault};
 use device::{Sink, Source};
 use house_rows::Keep;
 use site::Site;
@@ -36,7 +36,7 @@ pub struct Trial<K: Drop, S: Drop> {
     /// That over which they are answered with the bid raised.
     pub right: K,
     /// The source of the messages.
-    pub source: Result<S, Fault>,
+    pub source: Result<S, TaskFault>,
 }
 
 // What is found of the messages of a source, over two sites.
@@ -44,9 +44,9 @@ fn look_over<S: Source + Drop, K: Keep + Drop>(
     alloc: Global,
     left: &mut Site<K>,
     right: &mut Site<K>,
-    source: Result<S, Fault>,
+    source: Result<S, TaskFault>,
     raise: Raise,
-) -> Result<Surplus, Fault>
+) -> Result<Surplus, TaskFault>
     ensures found { IfOk result (HasLooked K.content K.is_failed K.is_honest S.left raise
         (zone_of left.old) source
         (keep_of left.old) (keep_of right.old) (keep_of left.new) (keep_of right.new)) }
@@ -66,7 +66,7 @@ fn look<S: Source + Drop, K: Keep + Drop>(
     alloc: Global,
     trial: Trial<K, S>,
     raise: Raise,
-) -> Result<Surplus, Fault>
+) -> Result<Surplus, TaskFault>
     ensures found { IfOk result
         (HasTried K.content K.is_failed K.is_honest S.left raise trial) }
     ensures fault { IfErr result (IsUntried S.left trial) }
@@ -76,41 +76,41 @@ fn look<S: Source + Drop, K: Keep + Drop>(
 }
 
 // Reports that a bid is covered, with so many replies to who looks.
-fn tell_same<W: Write>(output: &mut W, count: usize) -> Result<(), Fault>
+fn write_same<W: Write>(output: &mut W, count: usize) -> Result<(), TaskFault>
     ensures report { OnOk result
         (Appends (W.contents output.old) (W.contents output.new) (same_line count)) }
-    ensures fault { IfErr result (λ fault. fault ≡ Fault.Write) }
+    ensures fault { IfErr result (λ fault. fault ≡ TaskFault.Write) }
 {
     match writeln!(output, "same, {count} replies") {
         Ok(()) => Ok(()),
-        Err(_) => Err(Fault::Write),
+        Err(_) => Err(TaskFault::Write),
     }
 }
 
 // Reports that no covered bid is there.
-fn tell_not_covered<W: Write>(output: &mut W) -> Result<(), Fault>
+fn write_not_covered<W: Write>(output: &mut W) -> Result<(), TaskFault>
     ensures report { OnOk result
         (Appends (W.contents output.old) (W.contents output.new) not_covered_line) }
-    ensures fault { IfErr result (λ fault. fault ≡ Fault.Write) }
+    ensures fault { IfErr result (λ fault. fault ≡ TaskFault.Write) }
 {
     match writeln!(output, "not covered") {
         Ok(()) => Ok(()),
-        Err(_) => Err(Fault::Write),
+        Err(_) => Err(TaskFault::Write),
     }
 }
 
 /// Reports what was found, and gives whether the bid is covered.
-pub fn tell<W: Write>(output: &mut W, found: &Surplus) -> Result<bool, Fault>
+pub fn write_finding<W: Write>(output: &mut W, found: &Surplus) -> Result<bool, TaskFault>
     ensures report { IfOk result (IsShown (W.contents output.old) (W.contents output.new) found.now) }
-    ensures fault { IfErr result (λ fault. fault ≡ Fault.Write) }
+    ensures fault { IfErr result (λ fault. fault ≡ TaskFault.Write) }
 {
     match found {
         Surplus::Same { replies } => {
-            tell_same(output, replies.len())?;
+            write_same(output, replies.len())?;
             Ok(true)
         }
         Surplus::NotCovered => {
-            tell_not_covered(output)?;
+            write_not_covered(output)?;
             Ok(false)
         }
     }
@@ -118,18 +118,18 @@ pub fn tell<W: Write>(output: &mut W, found: &Surplus) -> Result<bool, Fault>
 
 /// Answers messages over a new house, and over another with one bid raised, and reports whether the
 /// bid is covered, so that it shows to nobody else. Ok is whether it is.
-pub fn tell_surplus<S: Source + Drop, W: Write, K: Keep + Drop>(
+pub fn report_surplus<S: Source + Drop, W: Write, K: Keep + Drop>(
     alloc: Global,
     trial: Trial<K, S>,
     raise: Raise,
     output: &mut W,
-) -> Result<bool, Fault>
+) -> Result<bool, TaskFault>
     ensures report { IfOk result (HasShown K.content K.is_failed K.is_honest S.left raise trial
         (W.contents output.old) (W.contents output.new)) }
     ensures fault { IfErr result (IsUnshown S.left trial) }
 {
     let found = look(alloc, trial, raise)?;
-    tell(output, &found)
+    write_finding(output, &found)
 }
 
 /// Answers messages over a new house, and over another with one bid raised, reports whether the bid
@@ -146,5 +146,5 @@ pub fn surplus_run<S: Source + Drop, W: Write, E: Sink, K: Keep + Drop>(
         (W.contents output.old) (W.contents output.new) true }
     ensures within { result ≤ 1 }
 {
-    status(errors, tell_surplus(alloc, trial, raise, output))
+    status(errors, report_surplus(alloc, trial, raise, output))
 }

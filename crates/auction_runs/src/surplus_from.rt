@@ -9,8 +9,8 @@ ghost use Rattle.site.specs.Answers.{zone_of};
 ghost use Rattle.site_serve.specs.Serving.{keep_of};
 
 use crate::audit::{both_begun, messages, status};
-use crate::fault::{Fault, Side};
-use crate::surplus::{Raise, Trial, tell};
+use crate::fault::{Side, TaskFault};
+use crate::surplus::{Raise, Trial, write_finding};
 use device::{Sink, Source};
 use house_rows::Keep;
 use site::Site;
@@ -23,9 +23,9 @@ fn look_over_from<S: Source + Drop, K: Keep + Drop>(
     alloc: Global,
     left: &mut Site<K>,
     right: &mut Site<K>,
-    source: Result<S, Fault>,
+    source: Result<S, TaskFault>,
     raise: Raise,
-) -> Result<Surplus, Fault>
+) -> Result<Surplus, TaskFault>
     ensures found { IfOk result (HasLookedFrom K.content K.is_failed K.is_honest S.left raise
         (zone_of left.old) source
         (keep_of left.old) (keep_of right.old) (keep_of left.new) (keep_of right.new)) }
@@ -45,7 +45,7 @@ fn look_from<S: Source + Drop, K: Keep + Drop>(
     alloc: Global,
     trial: Trial<K, S>,
     raise: Raise,
-) -> Result<Surplus, Fault>
+) -> Result<Surplus, TaskFault>
     ensures found { IfOk result
         (HasTriedFrom K.content K.is_failed K.is_honest S.left raise trial) }
     ensures fault { IfErr result (IsUntried S.left trial) }
@@ -56,18 +56,18 @@ fn look_from<S: Source + Drop, K: Keep + Drop>(
 
 // Answers messages over a house that lives on, and over another of equal tables with one bid raised,
 // and reports whether the bid is covered. Ok is whether it is.
-fn tell_surplus_from<S: Source + Drop, W: Write, K: Keep + Drop>(
+fn report_surplus_from<S: Source + Drop, W: Write, K: Keep + Drop>(
     alloc: Global,
     trial: Trial<K, S>,
     raise: Raise,
     output: &mut W,
-) -> Result<bool, Fault>
+) -> Result<bool, TaskFault>
     ensures report { IfOk result (HasShownFrom K.content K.is_failed K.is_honest S.left raise trial
         (W.contents output.old) (W.contents output.new)) }
     ensures fault { IfErr result (IsUnshown S.left trial) }
 {
     let found = look_from(alloc, trial, raise)?;
-    tell(output, &found)
+    write_finding(output, &found)
 }
 
 /// Answers messages over a house that lives on, and over another of equal tables with one bid
@@ -84,5 +84,5 @@ pub fn surplus_from_run<S: Source + Drop, W: Write, E: Sink, K: Keep + Drop>(
         (W.contents output.old) (W.contents output.new) true }
     ensures within { result ≤ 1 }
 {
-    status(errors, tell_surplus_from(alloc, trial, raise, output))
+    status(errors, report_surplus_from(alloc, trial, raise, output))
 }

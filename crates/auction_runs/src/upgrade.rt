@@ -6,7 +6,7 @@ ghost use Rattle.std.specs.Io.KnownBytes.{Appends};
 ghost use Rattle.auction_runs.specs.Over.{IsOver};
 ghost use Rattle.auction_runs.specs.Printed.{upgraded_line, upgraded_word};
 
-use crate::fault::{Fault, finish_run};
+use crate::fault::{TaskFault, finish_run};
 use device::Sink;
 use house_rows::{Ends, KeepFault};
 use std::io::Write;
@@ -19,14 +19,14 @@ fn word(upgraded: bool) -> &'static str
 }
 
 // Reports whether the house is upgraded.
-fn tell<W: Write>(output: &mut W, upgraded: bool) -> Result<(), Fault>
+fn write_version<W: Write>(output: &mut W, upgraded: bool) -> Result<(), TaskFault>
     ensures report { OnOk result
         (Appends (W.contents output.old) (W.contents output.new) (upgraded_line upgraded)) }
-    ensures fault { IfErr result (λ fault. fault ≡ Fault.Write) }
+    ensures fault { IfErr result (λ fault. fault ≡ TaskFault.Write) }
 {
     match writeln!(output, "{}", word(upgraded)) {
         Ok(()) => Ok(()),
-        Err(_) => Err(Fault::Write),
+        Err(_) => Err(TaskFault::Write),
     }
 }
 
@@ -35,14 +35,14 @@ fn finish<W: Write>(
     output: &mut W,
     ended: Result<(), KeepFault>,
     upgraded: bool,
-) -> Result<(), Fault>
+) -> Result<(), TaskFault>
     ensures report { OnOk result
         (Appends (W.contents output.old) (W.contents output.new) (upgraded_line upgraded)) }
     ensures ended { OnOk result (IsOk ended) }
     ensures fault { IfErr result (IsOfEnded ended) }
 {
     ended?;
-    tell(output, upgraded)
+    write_version(output, upgraded)
 }
 
 /// Ends the keep of a house that is upgraded, or was of version 2 before, reports which it is, and

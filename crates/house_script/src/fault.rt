@@ -7,7 +7,7 @@ use thiserror::Error;
 
 /// Why a script isn't played on.
 #[derive(Clone, Copy, Debug, Error)]
-pub enum Fault {
+pub enum ScriptFault {
     /// The script isn't text, or can't be read.
     #[error("the script can't be read")]
     Unread,
@@ -25,30 +25,30 @@ pub enum Fault {
     Output,
 }
 
-impl From<AllocError> for Fault {
-    fn from(_: AllocError) -> Fault {
-        Fault::Memory
+impl From<AllocError> for ScriptFault {
+    fn from(_: AllocError) -> ScriptFault {
+        ScriptFault::Memory
     }
 }
 
-impl From<ParseIntError> for Fault {
-    fn from(_: ParseIntError) -> Fault {
-        Fault::Script
+impl From<ParseIntError> for ScriptFault {
+    fn from(_: ParseIntError) -> ScriptFault {
+        ScriptFault::Script
     }
 }
 
 /// Of what is printed: what is read has a fault of its own.
-impl From<io::Error> for Fault {
-    fn from(_: io::Error) -> Fault {
-        Fault::Output
+impl From<io::Error> for ScriptFault {
+    fn from(_: io::Error) -> ScriptFault {
+        ScriptFault::Output
     }
 }
 
-impl From<KeepFault> for Fault {
-    fn from(fault: KeepFault) -> Fault {
+impl From<KeepFault> for ScriptFault {
+    fn from(fault: KeepFault) -> ScriptFault {
         match fault {
-            KeepFault::Memory => Fault::Memory,
-            KeepFault::Store | KeepFault::Damaged => Fault::Keep,
+            KeepFault::Memory => ScriptFault::Memory,
+            KeepFault::Store | KeepFault::Damaged => ScriptFault::Keep,
         }
     }
 }

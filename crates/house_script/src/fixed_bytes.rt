@@ -1,4 +1,4 @@
-//! What a keep in memory takes in the place of random bytes.
+//! Bytes that a script's keep in memory takes in the place of random ones.
 use std::io;
 use std::random::RandomSource;
 

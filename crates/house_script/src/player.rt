@@ -1,5 +1,5 @@
 //! Playing a script.
-use crate::fault::Fault;
+use crate::fault::ScriptFault;
 use crate::makes::Makes;
 use crate::played::House;
 use crate::question::answer;
@@ -12,17 +12,17 @@ use transcript::echo;
 
 // Reports the processor time used so far, in nanoseconds: measurements have such a line between
 // others.
-fn tell_time(rt: &(impl Print + CpuClock)) -> Result<(), Fault> {
+fn tell_time(rt: &(impl Print + CpuClock)) -> Result<(), ScriptFault> {
     let used = rt.process_cpu_time()?;
     let nanoseconds = used.as_nanos();
     Ok(println!(rt; "{nanoseconds}")?)
 }
 
 /// The script on standard input.
-pub fn read_script(rt: &impl Input, alloc: Global) -> Result<String, Fault> {
+pub fn read_script(rt: &impl Input, alloc: Global) -> Result<String, ScriptFault> {
     match io::read_to_string(alloc, rt.reader()) {
         Ok(script) => Ok(script),
-        Err(_) => Err(Fault::Unread),
+        Err(_) => Err(ScriptFault::Unread),
     }
 }
 
@@ -33,7 +33,7 @@ pub fn play<K: Keep + Drop, M: Makes<K>>(
     alloc: Global,
     makes: &M,
     script: &str,
-) -> Result<(), Fault> {
+) -> Result<(), ScriptFault> {
     let mut house: House<K> = House::new(alloc, makes)?;
     play_lines(rt, alloc, makes, &mut house, script)
 }
@@ -45,7 +45,7 @@ fn play_lines<K: Keep + Drop, M: Makes<K>>(
     makes: &M,
     house: &mut House<K>,
     script: &str,
-) -> Result<(), Fault> {
+) -> Result<(), ScriptFault> {
     for line in script.lines() {
         play_line(rt, alloc, makes, house, line)?;
     }
@@ -59,7 +59,7 @@ fn play_line<K: Keep + Drop, M: Makes<K>>(
     makes: &M,
     house: &mut House<K>,
     line: &str,
-) -> Result<(), Fault> {
+) -> Result<(), ScriptFault> {
     let line = echo(rt, line)?;
     if line == "time" {
         return tell_time(rt);
@@ -67,7 +67,7 @@ fn play_line<K: Keep + Drop, M: Makes<K>>(
     match answer_to(alloc, makes, house, line) {
         Ok(None) => Ok(()),
         Ok(Some(answer)) => Ok(println!(rt; "{answer}")?),
-        Err(Fault::Memory) => Ok(println!(rt; "Memory")?),
+        Err(ScriptFault::Memory) => Ok(println!(rt; "Memory")?),
         Err(fault) => Err(fault),
     }
 }
@@ -79,7 +79,7 @@ pub fn ask<K: Keep>(
     alloc: Global,
     keep: &mut K,
     script: &str,
-) -> Result<(), Fault> {
+) -> Result<(), ScriptFault> {
     for line in script.lines() {
         ask_line(rt, alloc, keep, line)?;
     }
@@ -92,7 +92,7 @@ fn ask_line<K: Keep>(
     alloc: Global,
     keep: &mut K,
     line: &str,
-) -> Result<(), Fault> {
+) -> Result<(), ScriptFault> {
     let line = echo(rt, line)?;
     if line.is_empty() || line.starts_with("--") {
         return Ok(());
@@ -100,7 +100,7 @@ fn ask_line<K: Keep>(
     if line == "time" {
         return tell_time(rt);
     }
-    let question = line.strip_prefix("? ").ok_or(Fault::Script)?;
+    let question = line.strip_prefix("? ").ok_or(ScriptFault::Script)?;
     let answer = answer(alloc, keep, question)?;
     Ok(println!(rt; "{answer}")?)
 }

@@ -1,17 +1,17 @@
 //! What a house is asked: a name, and the words of its line.
 //!
 //! Names are looked for by subject, since a match of all in one is slow to prove.
-ghost use Rattle.house_rows.specs.Keeping.{IsRead};
+ghost use Rattle.house_rows.specs.Answers.{Reads};
 
-use crate::fault::Fault;
+use crate::fault::ScriptFault;
 use crate::shown::{Listing, StandingRow, line};
 use crate::words::Words;
 use house_rows::{Category, Item, Keep, KeepFault, Member};
 use std::alloc::Global;
 
 /// The line that a keep answers to a question. Numbers that the question doesn't have are 0.
-pub fn answer<K: Keep>(alloc: Global, keep: &mut K, question: &str) -> Result<String, Fault>
-    ensures read { IsRead K.content K.is_failed K.is_honest K.may_leave keep.old keep.new }
+pub fn answer<K: Keep>(alloc: Global, keep: &mut K, question: &str) -> Result<String, ScriptFault>
+    ensures read { Reads K.Keep keep.old keep.new }
 {
     let words = &mut Words::new(alloc, question);
     match words.word()? {
@@ -36,8 +36,8 @@ fn on_people<K: Keep>(
     keep: &mut K,
     name: &str,
     numbers: [u64; 3],
-) -> Result<String, Fault>
-    ensures read { IsRead K.content K.is_failed K.is_honest K.may_leave keep.old keep.new }
+) -> Result<String, ScriptFault>
+    ensures read { Reads K.Keep keep.old keep.new }
 {
     match name {
         "clock" => line(alloc, keep.clock()),
@@ -57,8 +57,8 @@ fn on_items<K: Keep>(
     keep: &mut K,
     name: &str,
     numbers: [u64; 3],
-) -> Result<String, Fault>
-    ensures read { IsRead K.content K.is_failed K.is_honest K.may_leave keep.old keep.new }
+) -> Result<String, ScriptFault>
+    ensures read { Reads K.Keep keep.old keep.new }
 {
     let [first, second, _] = numbers;
     match name {
@@ -80,8 +80,8 @@ fn on_bids_and_watches<K: Keep>(
     keep: &mut K,
     name: &str,
     numbers: [u64; 3],
-) -> Result<String, Fault>
-    ensures read { IsRead K.content K.is_failed K.is_honest K.may_leave keep.old keep.new }
+) -> Result<String, ScriptFault>
+    ensures read { Reads K.Keep keep.old keep.new }
 {
     let [first, second, _] = numbers;
     match name {
@@ -99,8 +99,8 @@ fn on_questions<K: Keep>(
     keep: &mut K,
     name: &str,
     numbers: [u64; 3],
-) -> Result<String, Fault>
-    ensures read { IsRead K.content K.is_failed K.is_honest K.may_leave keep.old keep.new }
+) -> Result<String, ScriptFault>
+    ensures read { Reads K.Keep keep.old keep.new }
 {
     let [first, second, third] = numbers;
     match name {
@@ -120,8 +120,8 @@ fn on_feedback<K: Keep>(
     keep: &mut K,
     name: &str,
     numbers: [u64; 3],
-) -> Result<String, Fault>
-    ensures read { IsRead K.content K.is_failed K.is_honest K.may_leave keep.old keep.new }
+) -> Result<String, ScriptFault>
+    ensures read { Reads K.Keep keep.old keep.new }
 {
     let [first, second, _] = numbers;
     match name {
@@ -138,14 +138,14 @@ fn on_band_tables<K: Keep>(
     keep: &mut K,
     name: &str,
     number: u64,
-) -> Result<String, Fault>
-    ensures read { IsRead K.content K.is_failed K.is_honest K.may_leave keep.old keep.new }
+) -> Result<String, ScriptFault>
+    ensures read { Reads K.Keep keep.old keep.new }
 {
     match name {
         "newest" => line(alloc, keep.newest()),
         "edition" => line(alloc, keep.edition_of(number)),
         "bands" => line(alloc, bands(alloc, keep, number)),
-        _ => Err(Fault::Script),
+        _ => Err(ScriptFault::Script),
     }
 }
 
@@ -187,7 +187,7 @@ fn listing(item: Result<Option<Item>, KeepFault>) -> Result<Option<Listing>, Kee
 
 // The standing of an item, and its floor by its own band table.
 fn standing<K: Keep>(keep: &mut K, item: u64) -> Result<Option<StandingRow>, KeepFault>
-    ensures read { IsRead K.content K.is_failed K.is_honest K.may_leave keep.old keep.new }
+    ensures read { Reads K.Keep keep.old keep.new }
 {
     let Some(standing) = keep.standing(item)? else {
         return Ok(None);

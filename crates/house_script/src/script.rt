@@ -9,10 +9,10 @@
 //! that is filled with the changes so far; its answer is `ok`. An empty line, and one that begins
 //! with `--`, has no answer. After the mark `> `, with which `transcript` prints it before its
 //! answer, a line is played as without it.
-use crate::fault::Fault;
+use crate::fault::ScriptFault;
 use crate::makes::Makes;
-use crate::order::Order;
 use crate::played::House;
+use crate::script_line::ScriptLine;
 use house_rows::{Keep, Refusal};
 use std::alloc::{AllocError, Global};
 use std::fmt;
@@ -44,7 +44,7 @@ pub(crate) fn answer_to<K: Keep + Drop, M: Makes<K>>(
     makes: &M,
     house: &mut House<K>,
     line: &str,
-) -> Result<Option<Answer>, Fault> {
+) -> Result<Option<Answer>, ScriptFault> {
     let (first, rest) = line.split_once(' ').unwrap_or((line, ""));
     match first {
         "" | "--" => Ok(None),
@@ -62,7 +62,7 @@ pub(crate) fn answer_to<K: Keep + Drop, M: Makes<K>>(
         }
         "?" => Ok(Some(Answer::Report(house.answer(alloc, rest)?))),
         "times" => Ok(Some(Answer::Ordered(repeat(alloc, house, rest)?))),
-        _ => Ok(Some(Answer::Ordered(order(alloc, house, line)?))),
+        _ => Ok(Some(Answer::Ordered(play_line(alloc, house, line)?))),
     }
 }
 
@@ -71,12 +71,12 @@ fn repeat<K: Keep + Drop>(
     alloc: Global,
     house: &mut House<K>,
     counted: &str,
-) -> Result<Option<Refusal>, Fault> {
-    let (times, command) = counted.split_once(' ').ok_or(Fault::Script)?;
+) -> Result<Option<Refusal>, ScriptFault> {
+    let (times, command) = counted.split_once(' ').ok_or(ScriptFault::Script)?;
     let times: u64 = times.parse()?;
     for time in 1..=times {
         let command = with_number(alloc, command, time)?;
-        let refusal = order(alloc, house, command.as_str())?;
+        let refusal = play_line(alloc, house, command.as_str())?;
         if refusal.is_some() {
             return Ok(refusal);
         }
@@ -98,10 +98,10 @@ fn with_number(alloc: Global, line: &str, number: u64) -> Result<String, AllocEr
 }
 
 // Gives a command, and says why it is refused, if it is.
-fn order<K: Keep + Drop>(
+fn play_line<K: Keep + Drop>(
     alloc: Global,
     house: &mut House<K>,
     line: &str,
-) -> Result<Option<Refusal>, Fault> {
-    house.order(Order::of_line(alloc, line)?)
+) -> Result<Option<Refusal>, ScriptFault> {
+    house.play_line(ScriptLine::of_line(alloc, line)?)
 }

@@ -1,5 +1,5 @@
 //! How the rows of a house are printed. `-` stands for what there is none of.
-use crate::fault::Fault;
+use crate::fault::ScriptFault;
 use cents::Cents;
 use house_rows::{
     Category, Counts, Due, Feedback, Item, KeepFault, Member, OwnBest, OwnBid, OwnReserve,
@@ -21,12 +21,12 @@ pub(crate) trait Shown {
 pub(crate) fn line<T: Shown + Drop>(
     alloc: Global,
     answer: Result<T, KeepFault>,
-) -> Result<String, Fault> {
+) -> Result<String, ScriptFault> {
     let answer = answer?;
     let mut line = String::new(alloc);
     match answer.show(&mut line) {
         Ok(()) => Ok(line),
-        Err(_) => Err(Fault::Memory),
+        Err(_) => Err(ScriptFault::Memory),
     }
 }
 

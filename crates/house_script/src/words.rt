@@ -1,7 +1,7 @@
 //! The words of a line.
 ghost use Rattle.std.specs.Prelude.{◌<◌};
 
-use crate::fault::Fault;
+use crate::fault::ScriptFault;
 use house_rows::{Rating, Rows, Text};
 use std::alloc::{AllocError, Global};
 use std::str::SplitWhitespace;
@@ -28,17 +28,17 @@ impl<'l> Words<'l> {
     }
 
     /// The next word.
-    pub(crate) fn word(&mut self) -> Result<&'l str, Fault> {
-        self.next().ok_or(Fault::Script)
+    pub(crate) fn word(&mut self) -> Result<&'l str, ScriptFault> {
+        self.next().ok_or(ScriptFault::Script)
     }
 
     /// The number that the next word spells.
-    pub(crate) fn number(&mut self) -> Result<u64, Fault> {
+    pub(crate) fn number(&mut self) -> Result<u64, ScriptFault> {
         Ok(self.word()?.parse()?)
     }
 
     /// The numbers that the next three words spell; where there are fewer words, the others are 0.
-    pub(crate) fn numbers(&mut self) -> Result<[u64; 3], Fault> {
+    pub(crate) fn numbers(&mut self) -> Result<[u64; 3], ScriptFault> {
         let mut numbers = [0; 3];
         for number in &mut numbers {
             if let Some(word) = self.next() {
@@ -49,7 +49,7 @@ impl<'l> Words<'l> {
     }
 
     /// The number that the next word spells, or none where it is `-`.
-    pub(crate) fn number_or_none(&mut self) -> Result<Option<u64>, Fault> {
+    pub(crate) fn number_or_none(&mut self) -> Result<Option<u64>, ScriptFault> {
         match self.word()? {
             "-" => Ok(None),
             word => Ok(Some(word.parse()?)),
@@ -57,7 +57,7 @@ impl<'l> Words<'l> {
     }
 
     /// The number that the next word spells, if there is one.
-    pub(crate) fn number_if_any(&mut self) -> Result<Option<u64>, Fault> {
+    pub(crate) fn number_if_any(&mut self) -> Result<Option<u64>, ScriptFault> {
         match self.next() {
             None => Ok(None),
             Some(word) => Ok(Some(word.parse()?)),
@@ -65,21 +65,21 @@ impl<'l> Words<'l> {
     }
 
     /// The pairs of numbers that all other words spell.
-    pub(crate) fn pairs(&mut self) -> Result<Rows<(u64, u64)>, Fault> {
+    pub(crate) fn pairs(&mut self) -> Result<Rows<(u64, u64)>, ScriptFault> {
         let mut pairs = Vec::new(self.alloc);
         for _ in 0..u64::MAX {
             let Some(word) = self.next() else {
                 break;
             };
             let Ok(()) = pairs.push((word.parse()?, self.number()?)) else {
-                return Err(Fault::Memory);
+                return Err(ScriptFault::Memory);
             };
         }
         Ok(Rows::new(pairs))
     }
 
     /// The rating that the next word spells, or none where it spells no rating.
-    pub(crate) fn rating(&mut self) -> Result<Option<Rating>, Fault> {
+    pub(crate) fn rating(&mut self) -> Result<Option<Rating>, ScriptFault> {
         Ok(match self.word()? {
             "-1" => Some(Rating::Minus),
             "0" => Some(Rating::Zero),
@@ -90,7 +90,7 @@ impl<'l> Words<'l> {
 
     /// The text that the next word spells: `-` is an empty one, `_` a space, `%7f` a character by two
     /// digits, and `*40` at the end writes what comes before it so often.
-    pub(crate) fn text(&mut self) -> Result<Text, Fault> {
+    pub(crate) fn text(&mut self) -> Result<Text, ScriptFault> {
         let word = self.word()?;
         let (part, times) = match word.split_once('*') {
             Some((part, times)) => (part, times.parse()?),

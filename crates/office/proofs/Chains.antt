@@ -8,7 +8,7 @@ use Rattle.site_request.specs.declared.asked.Asked.{Asked}
 use Rattle.office.specs.declared.fault.ImportFault.{ImportFault}
 use Rattle.office.specs.declared.fault.ImportFault.TheVariants as importing
 use Rattle.office.specs.declared.lot.Lot.{Lot}
-use Rattle.office.specs.declared.order.Lister.{Lister}
+use Rattle.office.specs.declared.lister.Lister.{Lister}
 use Rattle.office.specs.declared.outcome.Outcome.{Outcome}
 use Rattle.office.specs.declared.outcome.Outcome.TheVariants as outcome
 use Rattle.office.specs.declared.tally.Imported.{Imported}

@@ -6,7 +6,7 @@ use Rattle.steps.specs.Reading.{HasRead, records_of}
 use Rattle.steps.proofs.ReadLemmas.{read_first}
 use Rattle.office.specs.declared.fault.ImportFault.{ImportFault}
 use Rattle.office.specs.declared.fault.ImportFault.TheVariants as importing
-use Rattle.office.specs.declared.order.Lister.{Lister}
+use Rattle.office.specs.declared.lister.Lister.{Lister}
 use Rattle.office.specs.declared.tally.Imported.{Imported}
 use Rattle.office.specs.Imports.{EndsAtRow, HasImported, HasListed, IsCut, IsReading, UnlessWrite}
 use Rattle.office.specs.Lots.{head}

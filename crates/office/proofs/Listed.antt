@@ -14,12 +14,12 @@ use Rattle.site_request.specs.Asked.{IsAsked, asked_of}
 use Rattle.site_request.specs.declared.asked.Asked.{Asked}
 use Rattle.site_digits.specs.Digits.{digits_after}
 use Rattle.site_request.specs.Commands.{command_of}
-use Rattle.site_request.specs.declared.order.Order.TheVariants as order
+use Rattle.site_request.specs.declared.command_path.CommandPath.TheVariants as command_path
 use Rattle.office.specs.Listings.{CanList, IsListable, IsOrderOf, listing_by, listing_of}
 use Rattle.office.specs.Lots.{IsChoiceAt, Spells, digits_in}
 use Rattle.office.specs.Orders.{body_of, message_of, order_text, tree_with}
 use Rattle.office.specs.declared.lot.Lot.{Lot}
-use Rattle.office.specs.declared.order.Lister.{Lister}
+use Rattle.office.specs.declared.lister.Lister.{Lister}
 use Rattle.wire.proofs.OneFrame.{one_frame}
 use Rattle.office.proofs.OrderAsks.{order_asks}
 use Rattle.office.proofs.OrderBodies.{listing_read, members_with}
@@ -80,9 +80,9 @@ tree_is : (lot : Lot) (price : Option ℕ)
 tree_is lot None = refl
 tree_is lot (Some n) = refl
 
-body_lists : (lot : Lot) → IsListable lot → command_of order.List (body_of lot) ≡ Ok (listing_of lot)
+body_lists : (lot : Lot) → IsListable lot → command_of command_path.List (body_of lot) ≡ Ok (listing_of lot)
 body_lists lot is =
-    ap (λ tree. command_of order.List (text_of tree)) (tree_is lot lot.buy_now)
+    ap (λ tree. command_of command_path.List (text_of tree)) (tree_is lot lot.buy_now)
     ∙ listing_read lot.buy_now lot.category lot.lot.now lot.title.now lot.text.now lot.start lot.end
     is.buy_now is.category is.code is.title is.text is.start is.end
 

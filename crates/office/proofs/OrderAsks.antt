@@ -5,10 +5,10 @@ use Rattle.std.proofs.lemmas.Bool.{le-leb}
 use Rattle.std.proofs.lemmas.Fmt.{digits_decimal}
 use Rattle.house_rows.specs.Limits.{last_moment}
 use Rattle.house_rows.specs.declared.command.Command.{Command}
-use Rattle.house_rows.specs.declared.message.Message.TheVariants.{Order}
+use Rattle.house_rows.specs.declared.message.Message.TheVariants.{Write}
 use Rattle.site_digits.specs.Digits.{count_in}
 use Rattle.site_request.specs.Commands.{command_of}
-use Rattle.site_request.specs.declared.order.Order.TheVariants as order
+use Rattle.site_request.specs.declared.command_path.CommandPath.TheVariants as command_path
 use Rattle.site_request.specs.Routes.{route_of}
 use Rattle.site_request.specs.declared.route.Route.TheVariants as route
 use Rattle.wire.specs.Fields.{ends_connection}
@@ -22,9 +22,9 @@ use Rattle.office.proofs.OrderHeads.{order_bytes, order_head}
 use Rattle.office.proofs.OrderRoutes.{items_route}
 
 by_parts : (m : Framed) (member moment : ℕ) (c : Command) → caller_in m ≡ Some member → moment_in m ≡ Some moment
-    → route_of m.method m.target ≡ Ok (route.Order order.List) → command_of order.List m.body ≡ Ok c
+    → route_of m.method m.target ≡ Ok (route.Post command_path.List) → command_of command_path.List m.body ≡ Ok c
     → ends_connection m.minor m.fields ≡ false
-    → asked_of (Ok m) ≡ record { closes = false; message = Order moment member c }
+    → asked_of (Ok m) ≡ record { closes = false; message = Write moment member c }
 unfolding asked_of message_of asks_of called ordered
 by_parts m member moment c caller at_moment routed body stays = rw (stays, caller, routed, at_moment, body) refl
 
@@ -52,9 +52,9 @@ moment_is member moment body small =
     ∙ rw (le-leb moment last_moment small) refl
 
 pub order_asks : (member moment : ℕ) (body : List ℕ) (c : Command) → member < 10 ^ 10 → moment ≤ last_moment
-    → length body ≤ 16384 → command_of order.List body ≡ Ok c
+    → length body ≤ 16384 → command_of command_path.List body ≡ Ok c
     → IsAsked (order_bytes (decimal member) (decimal moment) (decimal (length body)) body)
-    (record { closes = false; message = Order moment member c })
+    (record { closes = false; message = Write moment member c })
 order_asks member moment body c fm ft few is =
     let m = parsed member moment body in (
       Ok m,

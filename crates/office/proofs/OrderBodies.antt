@@ -24,7 +24,7 @@ use Rattle.site_bodies.specs.Fields.{maybe_whole_at, text_at as body_text_at, wh
 use Rattle.site_bodies.specs.Members.{body_of}
 use Rattle.site_request.specs.Commands.{command_of, fields_in, listing_in, object_at, or_no_object}
 use Rattle.site_request.specs.Fields.{◌>>=◌, number_at, optional_at, text_at}
-use Rattle.site_request.specs.declared.order.Order.TheVariants as order
+use Rattle.site_request.specs.declared.command_path.CommandPath.TheVariants as command_path
 
 -- ---- values
 
@@ -177,12 +177,12 @@ listing_is (Some n) category lot title text start end = refl
 pub listing_read : (buy_now : Option ℕ) (category : ℕ) (lot title text : List ℕ) (start end : ℕ)
     → IfSome buy_now (λ n. n < 2 ^ 64) → category < 2 ^ 64 → IsUtf8 lot → IsUtf8 title
     → IsUtf8 text → start < 2 ^ 64 → end < 2 ^ 64
-    → command_of order.List (text_of (object_of (members_with buy_now category lot title text start end)))
+    → command_of command_path.List (text_of (object_of (members_with buy_now category lot title text start end)))
     ≡ Ok (command.List category lot title text start buy_now end None)
 unfolding command_of object_at fields_in
 listing_read buy_now category lot title text start end fb fc ul ut ux fs fe =
     let ms = members_with buy_now category lot title text start end in
-    ap (λ found. or_no_object found >>= fields_in order.List)
+    ap (λ found. or_no_object found >>= fields_in command_path.List)
     (body_read ms (plain_with buy_now category lot title text start end fb fc ul ut ux fs fe)
     (in_order buy_now category lot title text start end))
     ∙ listing_is buy_now category lot title text start end

@@ -5,7 +5,7 @@ use Rattle.office.specs.declared.column.Column.{Column}
 use Rattle.office.specs.declared.fault.ImportFault.{ImportFault}
 use Rattle.office.specs.declared.fault.ImportFault.TheVariants as importing
 use Rattle.office.specs.declared.lot.Lot.{Lot}
-use Rattle.office.specs.declared.order.Lister.{Lister}
+use Rattle.office.specs.declared.lister.Lister.{Lister}
 use Rattle.office.specs.declared.outcome.Outcome.{Outcome}
 use Rattle.office.specs.declared.outcome.Outcome.TheVariants.{Refused}
 use Rattle.office.specs.Imports.{EndsAtLot, EndsAtRow, IsDone, IsRow, UnlessWrite}

@@ -4,12 +4,12 @@ use Rattle.std.specs.Str.{IsUtf8}
 use Rattle.house_rows.specs.Limits.{last_moment}
 use Rattle.house_rows.specs.declared.command.Command.{Command}
 use Rattle.house_rows.specs.declared.command.Command.TheVariants as command
-use Rattle.house_rows.specs.declared.message.Message.TheVariants.{Order}
+use Rattle.house_rows.specs.declared.message.Message.TheVariants.{Write}
 use Rattle.site_request.specs.Asked.{IsAsked}
 use Rattle.site_request.specs.declared.asked.Asked.{Asked}
 use Rattle.site_digits.specs.Digits.{most_digits}
 use Rattle.office.specs.declared.lot.Lot.{Lot}
-use Rattle.office.specs.declared.order.Lister.{Lister}
+use Rattle.office.specs.declared.lister.Lister.{Lister}
 use Rattle.office.specs.Orders.{order_text}
 
 -- a member and a moment that a message can name
@@ -34,7 +34,7 @@ listing_of lot =
 
 -- that a member lists a lot at a moment, and goes on with the connection
 abbrev pub listing_by : Lister → Lot → Asked
-listing_by by lot = record { closes = false; message = Order by.moment by.member (listing_of lot) }
+listing_by by lot = record { closes = false; message = Write by.moment by.member (listing_of lot) }
 
 -- what the order of a lot asks: its listing, where a message can name the member and the moment
 pub record IsOrderOf (by : Lister) (lot : Lot) (asked : Asked) : Type 0 where

@@ -3,7 +3,7 @@ use Rattle.std.specs.Prelude.{if◌then◌else◌, ℕ, List, [], ◌∷◌, ◌
 use Rattle.pages_json.specs.Words.{object_of, text_of, whole}
 use Rattle.serde_json.specs.Data.{Data, string}
 use Rattle.office.specs.declared.lot.Lot.{Lot}
-use Rattle.office.specs.declared.order.Lister.{Lister}
+use Rattle.office.specs.declared.lister.Lister.{Lister}
 
 -- the tree of a lot, by its price for buying at once. Keys are in byte order
 abbrev pub tree_with : Lot → Option ℕ → Data

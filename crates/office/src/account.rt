@@ -1,7 +1,8 @@
 //! The statement of a member.
 ghost use Rattle.std.specs.Prelude.{◌≡◌, ◌<◌, ◌≤◌, ◌↔◌, false, true, None, IfOk, IsErrOf, IsOk, OnOk, is_some};
+ghost use Rattle.house_rows.specs.Answers.{Reads};
 ghost use Rattle.house_rows.specs.Found.{sales_to};
-ghost use Rattle.house_rows.specs.Keeping.{AreSound, IsRead};
+ghost use Rattle.house_rows.specs.Keeping.{AreSound};
 ghost use Rattle.house_rows.specs.Pages.{member_at};
 ghost use Rattle.settle.specs.Statement.{statement_of};
 ghost use Rattle.settle.specs.Zoned.{IsZoneOf};
@@ -65,7 +66,7 @@ pub fn statement<K: Keep>(
         → IsErrOf result StatementFault.Damaged
         → ¬ (IsReadable (K.content keep.old).settings.zone) }
     ensures store { IsErrOf result StatementFault.Store ↔ (K.is_failed keep.new ≡ true) }
-    ensures read { IsRead K.content K.is_failed K.is_honest K.may_leave keep.old keep.new }
+    ensures read { Reads K.Keep keep.old keep.new }
 {
     let settings = keep.settings()?;
     let zone = read_zone(settings)?;

@@ -2,9 +2,11 @@
 ghost use Rattle.std.specs.Prelude.{◌≡◌, [], ◌∷◌, ◌++◌, ◌↔◌, ◌+◌, ◌<◌, ℕ, List, Some, false, true, length, IfErr, IfOk, IsErrOf, IsOk, OnOk, is_some};
 ghost use Rattle.std.specs.Io.KnownBytes.{Appends};
 ghost use Rattle.csv.specs.Records.{fields_of};
-ghost use Rattle.house_rows.specs.Keeping.{AreSound, IsRead};
+ghost use Rattle.house_rows.specs.Answers.{Reads};
+ghost use Rattle.house_rows.specs.Keeping.{AreSound};
 ghost use Rattle.house_rows.specs.Pages.{member_at};
-ghost use Rattle.site.specs.Answers.{IsStep, zone_of};
+ghost use Rattle.site.specs.Answers.{zone_of};
+ghost use Rattle.site.specs.Histories.{Steps};
 ghost use Rattle.steps.specs.Reading.{HasRead, records_of};
 ghost use Rattle.office.specs.Faults.{IsLookUpFault};
 ghost use Rattle.office.specs.Imports.{EndsAtLot, EndsAtRow, HasEnded, HasListed, HasOrdered, IsCut, IsDone, IsRow, IsReported, UnlessWrite, keep_of};
@@ -17,8 +19,8 @@ ghost use Rattle.office.specs.Tallies.{sum_of};
 use crate::column::Column;
 use crate::fault::ImportFault;
 use crate::lines::{print_fault, print_outcome, print_range, print_totals};
+use crate::lister::{Lister, Room};
 use crate::lot::{Lot, lot_of};
-use crate::order::{Lister, Room};
 use crate::outcome::{Outcome, outcome_of};
 use crate::records::{COLUMNS, next, plain_reader, read_head};
 use crate::tally::Imported;
@@ -39,7 +41,7 @@ pub fn check_member<K: Keep>(keep: &mut K, member: u64) -> Result<(), ImportFaul
     ensures damaged { K.is_honest keep.new → AreSound (K.content keep.old)
         → ¬ (IsErrOf result ImportFault.Damaged) }
     ensures fault { IfErr result IsLookUpFault }
-    ensures read { IsRead K.content K.is_failed K.is_honest K.may_leave keep.old keep.new }
+    ensures read { Reads K.Keep keep.old keep.new }
 {
     if keep.has_member(member)? {
         Ok(())
@@ -49,7 +51,11 @@ pub fn check_member<K: Keep>(keep: &mut K, member: u64) -> Result<(), ImportFaul
 }
 
 // Prints what the answer to a row's order says.
-fn tell<W: Write>(reply: &[u8], number: u64, output: &mut W) -> Result<Outcome, ImportFault>
+fn write_outcome<W: Write>(
+    reply: &[u8],
+    number: u64,
+    output: &mut W,
+) -> Result<Outcome, ImportFault>
     ensures report { IfOk result (λ outcome. Tells reply.now outcome
         × Appends (W.contents output.old) (W.contents output.new)
         (report_line number outcome reply.now)) }
@@ -70,7 +76,7 @@ fn ask<W: Write, K: Keep + Drop>(
     output: &mut W,
 ) -> Result<Outcome, ImportFault>
     ensures report { IsReported
-        (IsStep K.content K.is_failed K.is_honest K.may_leave (zone_of site.old))
+        (Steps K.Keep (zone_of site.old))
         (Appends (W.contents output.old) (W.contents output.new))
         message.now number result (keep_of site.old) (keep_of site.new) }
     ensures quiet { IfErr result (λ fault.
@@ -78,7 +84,7 @@ fn ask<W: Write, K: Keep + Drop>(
     ensures zone { zone_of site.new ≡ zone_of site.old }
 {
     let reply = site.answer(message);
-    tell(&reply, number, output)
+    write_outcome(&reply, number, output)
 }
 
 // Refuses a row whose order would be too long.
@@ -118,16 +124,16 @@ fn list<W: Write, K: Keep + Drop>(
 ) -> Result<Outcome, ImportFault>
     requires { IsListable lot.now }
     ensures done { IfOk result (λ outcome. (line : List ℕ) × IsDone
-        (IsStep K.content K.is_failed K.is_honest K.may_leave (zone_of site.old))
+        (Steps K.Keep (zone_of site.old))
         by number lot.now outcome line (keep_of site.old) (keep_of site.new)
         × Appends (W.contents output.old) (W.contents output.new) line) }
     ensures ended { IfErr result (λ fault. EndsAtLot
-        (IsStep K.content K.is_failed K.is_honest K.may_leave (zone_of site.old))
+        (Steps K.Keep (zone_of site.old))
         by number lot.now fault (keep_of site.old) (keep_of site.new)) }
     ensures quiet { IfErr result (λ fault.
         UnlessWrite fault (W.contents output.new ≡ W.contents output.old)) }
     ensures ordered { HasOrdered
-        (IsStep K.content K.is_failed K.is_honest K.may_leave (zone_of site.old))
+        (Steps K.Keep (zone_of site.old))
         by (keep_of site.old) (keep_of site.new) }
     ensures zone { zone_of site.new ≡ zone_of site.old }
 {
@@ -148,16 +154,16 @@ fn import_row<W: Write, K: Keep + Drop>(
     output: &mut W,
 ) -> Result<Outcome, ImportFault>
     ensures row { IfOk result (λ outcome. (line : List ℕ) × IsRow
-        (IsStep K.content K.is_failed K.is_honest K.may_leave (zone_of site.old))
+        (Steps K.Keep (zone_of site.old))
         by number (fields_of row.now) outcome line (keep_of site.old) (keep_of site.new)
         × Appends (W.contents output.old) (W.contents output.new) line) }
     ensures ended { IfErr result (λ fault. EndsAtRow
-        (IsStep K.content K.is_failed K.is_honest K.may_leave (zone_of site.old))
+        (Steps K.Keep (zone_of site.old))
         by number (fields_of row.now) fault (keep_of site.old) (keep_of site.new)) }
     ensures quiet { IfErr result (λ fault.
         UnlessWrite fault (W.contents output.new ≡ W.contents output.old)) }
     ensures ordered { HasOrdered
-        (IsStep K.content K.is_failed K.is_honest K.may_leave (zone_of site.old))
+        (Steps K.Keep (zone_of site.old))
         by (keep_of site.old) (keep_of site.new) }
     ensures zone { zone_of site.new ≡ zone_of site.old }
 {
@@ -181,16 +187,16 @@ fn import_rows<R: Read + Drop, W: Write, K: Keep + Drop>(
 ) -> Result<Imported, ImportFault>
     ensures imported { IfOk result (λ report. (text : List ℕ)
         → HasRead R.remaining reader.old (head ∷ []) text → HasListed
-        (IsStep K.content K.is_failed K.is_honest K.may_leave (zone_of site.old))
+        (Steps K.Keep (zone_of site.old))
         (Appends (W.contents output.old) (W.contents output.new))
         by (records_of text) report (keep_of site.old) (keep_of site.new)) }
     ensures ended { IfErr result (λ fault. (text : List ℕ)
         → HasRead R.remaining reader.old (head ∷ []) text → IsCut
-        (IsStep K.content K.is_failed K.is_honest K.may_leave (zone_of site.old))
+        (Steps K.Keep (zone_of site.old))
         (Appends (W.contents output.old) (W.contents output.new))
         by (records_of text) fault (keep_of site.old) (keep_of site.new)) }
     ensures ordered { HasOrdered
-        (IsStep K.content K.is_failed K.is_honest K.may_leave (zone_of site.old))
+        (Steps K.Keep (zone_of site.old))
         by (keep_of site.old) (keep_of site.new) }
     ensures zone { zone_of site.new ≡ zone_of site.old }
 {
@@ -220,7 +226,7 @@ pub fn import<R: Read + Drop, W: Write, K: Keep + Drop>(
     // The rows are those of the file, each was dealt with in turn, and their lines and the totals
     // were printed.
     ensures imported { IfOk result (λ report. (text : List ℕ) → R.remaining lots ≡ Some text
-        → HasListed (IsStep K.content K.is_failed K.is_honest K.may_leave (zone_of site.old))
+        → HasListed (Steps K.Keep (zone_of site.old))
         (λ printed. Appends (W.contents output.old) (W.contents output.new)
         (printed ++ totals_line report))
         by (records_of text) report (keep_of site.old) (keep_of site.new)) }
@@ -228,12 +234,12 @@ pub fn import<R: Read + Drop, W: Write, K: Keep + Drop>(
         → length (records_of text) ≡ sum_of report + 1) }
     // Before an error the same holds of the rows up to it, and the error says why it came.
     ensures ended { IfErr result (λ fault. (text : List ℕ) → R.remaining lots ≡ Some text
-        → HasEnded (IsStep K.content K.is_failed K.is_honest K.may_leave (zone_of site.old))
+        → HasEnded (Steps K.Keep (zone_of site.old))
         (Appends (W.contents output.old) (W.contents output.new))
         by (records_of text) fault (keep_of site.old) (keep_of site.new)) }
     // However it ends, the keep is changed by orders of lots and nothing else.
     ensures ordered { HasOrdered
-        (IsStep K.content K.is_failed K.is_honest K.may_leave (zone_of site.old))
+        (Steps K.Keep (zone_of site.old))
         by (keep_of site.old) (keep_of site.new) }
     ensures zone { zone_of site.new ≡ zone_of site.old }
 {

@@ -4,5 +4,5 @@ use Rattle.auction_runs.proofs.audit.audit_run.Goals as goal
 
 pub returns-clause-equal : goal.returns-clause-equal
 returns-clause-equal g c =
-    λ e. of_value _ c.tell_compared.result true (c.status.ensures.equal.0 e)
-    c.tell_compared.ensures.report
+    λ e. of_value _ c.report_comparison.result true (c.status.ensures.equal.0 e)
+    c.report_comparison.ensures.report

@@ -4,5 +4,5 @@ use Rattle.auction_runs.proofs.audit_from.audit_from_run.Goals as goal
 
 pub returns-clause-equal : goal.returns-clause-equal
 returns-clause-equal g c =
-    λ e. of_value _ c.tell_compared_from.result true (c.status.ensures.equal.0 e)
-    c.tell_compared_from.ensures.report
+    λ e. of_value _ c.report_comparison_from.result true (c.status.ensures.equal.0 e)
+    c.report_comparison_from.ensures.report

@@ -4,15 +4,15 @@ use Rattle.auction_runs.proofs.bands.bands_run.Goals as goal
 
 pub returns-clause-set : goal.returns-clause-set
 returns-clause-set g c = λ e.
-    let found = both_of c.set-edition.result.0 c.tell_set.result (c.finish_run-status.ensures.done.0 e)
-    c.tell_set.ensures.set c.tell_set.ensures.report c.set-edition.ensures.set in
+    let found = both_of c.set-edition.result.0 c.write_outcome.result (c.finish_run-status.ensures.done.0 e)
+    c.write_outcome.ensures.set c.write_outcome.ensures.report c.set-edition.ensures.set in
     record { edition = found.0; set = found.2; printed = found.1 }
 
 pub returns-clause-reported : goal.returns-clause-reported
 returns-clause-reported g c =
     let run = c.finish_run-status.ensures in
-    reported_by g.E.Sink _ _ _ _ c.tell_set.result run.done run.fault run.quiet run.told
+    reported_by g.E.Sink _ _ _ _ c.write_outcome.result run.done run.fault run.quiet run.told
     (untold g.K.Keep.content g.K.Keep.is_honest g.K.Keep.may_leave
     (λ last. g.K.Ends.is_ended last c.set-edition.result.1) c.args.moment
-    (command.SetBands c.args.bands) c.args.keep c.set-edition.result.0 c.tell_set.result
-    c.tell_set.ensures.fault c.set-edition.ensures.fault c.set-edition.ensures.set)
+    (command.SetBands c.args.bands) c.args.keep c.set-edition.result.0 c.write_outcome.result
+    c.write_outcome.ensures.fault c.set-edition.ensures.fault c.set-edition.ensures.set)

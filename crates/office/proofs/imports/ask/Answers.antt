@@ -9,6 +9,6 @@ returns-clause-report g c =
       by_text = by_text;
       reply = cow_slice_items c.answer-reply.result;
       step = step;
-      report = rw c.deref.ensures.value at c.tell.ensures.report;
-      failed = rw c.deref.ensures.value at c.tell.ensures.failed;
+      report = rw c.deref.ensures.value at c.write_outcome.ensures.report;
+      failed = rw c.deref.ensures.value at c.write_outcome.ensures.failed;
     }

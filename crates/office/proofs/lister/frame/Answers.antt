@@ -1,6 +1,6 @@
 use Rattle.std.proofs.Common.{◌++◌, ◌∙◌, [], codes, decimal, length, refl}
 use Rattle.office.proofs.Grown.{grown}
-use Rattle.office.proofs.order.frame.Goals as goal
+use Rattle.office.proofs.lister.frame.Goals as goal
 
 pub returns : goal.returns
 returns c =

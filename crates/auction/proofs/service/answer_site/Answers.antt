@@ -4,7 +4,7 @@ use Rattle.auction_runs.proofs.Served.{some_of_answered}
 use Rattle.site.specs.Answers.{zone_of}
 use Rattle.site_connections.specs.Turns.{Takes}
 use Rattle.site_serve.specs.Serving.{keep_of}
-use Rattle.auction.proofs.program.answer_site.Goals as goal
+use Rattle.auction.proofs.service.answer_site.Goals as goal
 
 pub returns-in-Ok-clause-all : goal.returns-in-Ok-clause-all
 returns-in-Ok-clause-all g c =

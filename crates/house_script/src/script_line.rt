@@ -4,7 +4,7 @@ ghost use Rattle.house_rows.specs.Asks.{ChangeFits};
 ghost use Rattle.house_rows.specs.Changed.{changed};
 ghost use Rattle.house_script.specs.Housed.{IsHoused};
 
-use crate::fault::Fault;
+use crate::fault::ScriptFault;
 use crate::words::Words;
 use house::decide;
 use house_rows::{Change, Command, Keep, Refusal};
@@ -12,7 +12,7 @@ use std::alloc::Global;
 
 /// A command, when it is given and by whom.
 #[derive(Drop)]
-pub struct Order {
+pub struct ScriptLine {
     /// In whole seconds since 1970-01-01T00:00:00Z.
     pub moment: u64,
     /// A member's number, or 0 for the house.
@@ -21,24 +21,27 @@ pub struct Order {
     pub command: Command,
 }
 
-impl Order {
-    /// The order that a line spells.
-    pub fn of_line(alloc: Global, line: &str) -> Result<Order, Fault> {
+impl ScriptLine {
+    /// The command that a line spells.
+    pub fn of_line(alloc: Global, line: &str) -> Result<ScriptLine, ScriptFault> {
         let words = &mut Words::new(alloc, line);
         let (moment, caller) = (words.number()?, words.number()?);
         let command = command(words)?;
         match words.next() {
-            None => Ok(Order {
+            None => Ok(ScriptLine {
                 moment,
                 caller,
                 command,
             }),
-            Some(_) => Err(Fault::Script),
+            Some(_) => Err(ScriptFault::Script),
         }
     }
 
     /// Decides on it, and makes its change to the keep. Where it is refused nothing is changed.
-    pub(crate) fn give<K: Keep>(&self, keep: &mut K) -> Result<Result<Change<'_>, Refusal>, Fault>
+    pub(crate) fn give<K: Keep>(
+        &self,
+        keep: &mut K,
+    ) -> Result<Result<Change<'_>, Refusal>, ScriptFault>
         requires housed { IsHoused (K.is_honest keep.old) (K.is_failed keep.old) (K.content keep.old) }
         ensures honest { K.is_honest keep.new → K.is_honest keep.old }
         ensures stays { K.is_failed keep.old ≡ true → K.is_failed keep.new ≡ true }
@@ -58,7 +61,7 @@ impl Order {
 }
 
 // The command that words spell.
-fn command(words: &mut Words<'_>) -> Result<Command, Fault> {
+fn command(words: &mut Words<'_>) -> Result<Command, ScriptFault> {
     let name = words.word()?;
     match name {
         "register" => Ok(Command::Register {
@@ -77,7 +80,7 @@ fn command(words: &mut Words<'_>) -> Result<Command, Fault> {
 }
 
 // All other commands name their item first.
-fn on_an_item(words: &mut Words<'_>, name: &str) -> Result<Command, Fault> {
+fn on_an_item(words: &mut Words<'_>, name: &str) -> Result<Command, ScriptFault> {
     let item = words.number()?;
     match name {
         "bid" => Ok(Command::Bid {
@@ -103,11 +106,11 @@ fn on_an_item(words: &mut Words<'_>, name: &str) -> Result<Command, Fault> {
             rating: words.rating()?,
             text: words.text()?,
         }),
-        _ => Err(Fault::Script),
+        _ => Err(ScriptFault::Script),
     }
 }
 
-fn listing(words: &mut Words<'_>) -> Result<Command, Fault> {
+fn listing(words: &mut Words<'_>) -> Result<Command, ScriptFault> {
     Ok(Command::List {
         category: words.number()?,
         lot: words.text()?,

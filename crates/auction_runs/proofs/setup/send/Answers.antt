@@ -3,7 +3,7 @@ use Rattle.std.specs.Cow.{cow_slice_items}
 use Rattle.auction_runs.specs.Setup.{IsCreated}
 use Rattle.auction_runs.proofs.Outcomes.{on_ok_then}
 use Rattle.site_request.specs.Asked.{IsAsked}
-use Rattle.auction_runs.proofs.setup.order.Goals as goal
+use Rattle.auction_runs.proofs.setup.send.Goals as goal
 
 pub returns-clause-taken : goal.returns-clause-taken
 returns-clause-taken g c =

@@ -1,0 +1,118 @@
+//! `serve`: connections over the house in a file.
+ghost use Rattle.std.specs.Prelude.{◌≡◌, ◌≤◌, ◌⊎◌, IfErr, OnOk};
+ghost use Rattle.auction.specs.Remains.{IsEndedAs, IsLeftAs};
+ghost use Rattle.auction_runs.specs.Faults.{IsOfKeep};
+ghost use Rattle.auction_runs.specs.Runs.{HasAnswered, HasDone, HasServed, IsServedOver, IsServingFault, MayHaveAnswered};
+ghost use Rattle.settle.specs.Zoned.{IsZoneOf};
+ghost use Rattle.site.specs.Answers.{zone_of};
+ghost use Rattle.site_connections.specs.Turns.{Takes};
+ghost use Rattle.site_serve.specs.Serving.{keep_of};
+
+use crate::houses::KeepInFile;
+use crate::listener::Listen;
+use crate::remains::{Remains, refuse_house};
+use auction_runs::{MOST, TaskFault, answer_each, begin_site, serve_run};
+use auction_words::Serve;
+use device::Writing;
+use site::Site;
+use std::alloc::Global;
+
+// Answers connections over a site, and gives its keep back.
+fn answer_site<K: KeepInFile, C: Listen>(
+    rt: &HostRuntime,
+    alloc: Global,
+    site: Site<K>,
+    asked: Serve,
+) -> (Result<(), TaskFault>, K)
+    requires zone { K.is_honest (keep_of site)
+        → IsZoneOf (K.content (keep_of site)).settings.zone (zone_of site) }
+    ensures all { OnOk result.0 (HasAnswered K.Keep
+        (λ zone. Takes K.Keep C.Input.Source C.Output.Sink C.accepts C.ends zone MOST)
+        asked.count (keep_of site) result.1) }
+    ensures fault { IfErr result.0 (IsServingFault K.Keep result.1) }
+    ensures some { MayHaveAnswered K.Keep
+        (λ zone. Takes K.Keep C.Input.Source C.Output.Sink C.accepts C.ends zone MOST)
+        asked.count (keep_of site) result.1 }
+{
+    match C::listen(rt, asked.port, asked.count) {
+        Ok(mut connections) => {
+            answer_each(alloc, &mut connections, asked.count, &mut rt.stdout(), site)
+        }
+        Err(_) => (Err(TaskFault::Socket), site.end()),
+    }
+}
+
+// Answers connections over a keep, and gives it back. That its zone can't be read is reported before
+// that nobody can listen.
+fn answer_keep<K: KeepInFile, C: Listen>(
+    rt: &HostRuntime,
+    alloc: Global,
+    keep: K,
+    asked: Serve,
+) -> (Result<(), TaskFault>, K)
+    ensures all { OnOk result.0 (HasAnswered K.Keep
+        (λ zone. Takes K.Keep C.Input.Source C.Output.Sink C.accepts C.ends zone MOST)
+        asked.count keep result.1) }
+    ensures fault { IfErr result.0 (λ fault.
+        IsServingFault K.Keep result.1 fault ⊎ IsOfKeep fault) }
+    ensures some { MayHaveAnswered K.Keep
+        (λ zone. Takes K.Keep C.Input.Source C.Output.Sink C.accepts C.ends zone MOST)
+        asked.count keep result.1 }
+{
+    match begin_site(alloc, keep) {
+        Ok(site) => answer_site::<K, C>(rt, alloc, site, asked),
+        Err((fault, keep)) => (Err(fault), keep),
+    }
+}
+
+// Answers connections over a keep, and ends it.
+fn serve_keep<K: KeepInFile, C: Listen>(
+    rt: &HostRuntime,
+    alloc: Global,
+    keep: K,
+    asked: Serve,
+) -> (u8, K::Left)
+    ensures served { result.0 ≡ 0 → HasServed K.Keep K.is_ended
+        (λ zone. Takes K.Keep C.Input.Source C.Output.Sink C.accepts C.ends zone MOST)
+        asked.count keep result.1 }
+    ensures left { IsServedOver K.Keep K.is_ended K.is_left
+        (λ zone. Takes K.Keep C.Input.Source C.Output.Sink C.accepts C.ends zone MOST)
+        asked.count keep result.1 }
+    ensures within { result.0 ≤ 1 }
+{
+    let (answered, keep) = answer_keep::<K, C>(rt, alloc, keep, asked);
+    serve_run(
+        &mut rt.stdout(),
+        &mut Writing::new(rt.stderr()),
+        answered,
+        keep,
+        asked.count,
+    )
+}
+
+/// Answers connections over the house in a file.
+pub(crate) fn serve_file<K: KeepInFile, C: Listen>(
+    rt: &HostRuntime,
+    alloc: Global,
+    path: &str,
+    asked: Serve,
+    first: K::First,
+) -> (u8, Remains<K::Rest, K::Left>)
+    ensures served { result.0 ≡ 0 → IsEndedAs (HasDone (K.is_opened path.now)
+        (HasServed K.Keep K.is_ended
+        (λ zone. Takes K.Keep C.Input.Source C.Output.Sink C.accepts C.ends zone MOST)
+        asked.count)) result.1 }
+    ensures left { IsLeftAs (K.is_held path.now) (HasDone (K.is_opened path.now)
+        (IsServedOver K.Keep K.is_ended K.is_left
+        (λ zone. Takes K.Keep C.Input.Source C.Output.Sink C.accepts C.ends zone MOST)
+        asked.count)) result.1 }
+    ensures within { result.0 ≤ 1 }
+{
+    match K::open(rt, alloc, path, first) {
+        Ok(keep) => {
+            let (status, left) = serve_keep::<K, C>(rt, alloc, keep, asked);
+            (status, Remains::Ended(left))
+        }
+        Err((fault, rest)) => refuse_house(rt, TaskFault::from(fault), rest),
+    }
+}
