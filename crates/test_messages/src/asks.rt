@@ -139,7 +139,7 @@ fn line_of(alloc: Global, asked: &Asked) -> Result<String, Fault> {
 // Adds what is asked, in words.
 fn push_asked(line: &mut String, asked: &Asked) -> Result<(), AllocError> {
     match &asked.message {
-        Message::Order {
+        Message::Write {
             moment,
             caller,
             command,
@@ -216,7 +216,7 @@ fn seen_of_request(alloc: Global, asks: &mut Asks, request: &Request<'_>) -> Res
 // What is seen of a message.
 fn seen(message: &Message<Broken>) -> u64 {
     match message {
-        Message::Order {
+        Message::Write {
             moment,
             command,
             ..

@@ -19,7 +19,7 @@ pub(crate) fn answer(alloc: Global, routes: &Routes, line: &str) -> Result<Strin
 // A route: a command, a read, or the statement of two days as they are in the target.
 fn line_of(alloc: Global, route: &Route<'_>) -> Result<String, AllocError> {
     match route {
-        Route::Order(order) => format!(in alloc; "{order:?}"),
+        Route::Post(path) => format!(in alloc; "{path:?}"),
         Route::Read(query) => format!(in alloc; "{query:?}"),
         Route::Statement { from, to } => {
             format!(in alloc; "Statement {} {}", text_of(from), text_of(to))

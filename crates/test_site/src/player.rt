@@ -64,7 +64,7 @@ impl House {
         asked: &Asked,
     ) -> Result<Option<Vec<u8>>, Fault> {
         match &asked.message {
-            Message::Order {
+            Message::Write {
                 moment,
                 caller,
                 command,

@@ -2,7 +2,7 @@
 use crate::files::{OnFiles, Room};
 use crate::sessions::{Answer, Session, Stop, answer_at_stop, view};
 use crate::tally::{Found, Tally};
-use house_script::Fault;
+use house_script::ScriptFault;
 use std::alloc::Global;
 use std::mem;
 use stop_files::{Image, Loss, Pair, Side};
@@ -19,12 +19,12 @@ const THERE: Session = Session {
 
 impl OnFiles<'_> {
     // What the house shows after a session.
-    fn view(&self, session: Session<'_>) -> Result<Vec<u8>, Fault> {
+    fn view(&self, session: Session<'_>) -> Result<Vec<u8>, ScriptFault> {
         view(self.alloc, self, session)
     }
 
     // What is answered when a file stops.
-    fn answer(&self, session: Session<'_>, stop: Stop<'_>) -> Result<Answer, Fault> {
+    fn answer(&self, session: Session<'_>, stop: Stop<'_>) -> Result<Answer, ScriptFault> {
         answer_at_stop(self.alloc, self, session, stop)
     }
 }
@@ -48,14 +48,14 @@ fn view_in(
     image: &Image,
     room: Room,
     session: Session<'_>,
-) -> Result<Vec<u8>, Fault> {
+) -> Result<Vec<u8>, ScriptFault> {
     let pair = &Pair::of(alloc, image)?;
     OnFiles { alloc, pair, room }.view(session)
 }
 
 impl<'s> Case<'s> {
     /// The making of a house, in two files that hold nothing.
-    pub(crate) fn making(alloc: Global, room: Room) -> Result<Case<'s>, Fault> {
+    pub(crate) fn making(alloc: Global, room: Room) -> Result<Case<'s>, ScriptFault> {
         let base = Image::blank(alloc);
         let session = Session {
             is_new: true,
@@ -73,7 +73,7 @@ impl<'s> Case<'s> {
 
     /// Goes on to the command that comes next, which has to be accepted and to change what the
     /// house shows.
-    pub(crate) fn advance(&mut self, alloc: Global, command: &'s str) -> Result<(), Fault> {
+    pub(crate) fn advance(&mut self, alloc: Global, command: &'s str) -> Result<(), ScriptFault> {
         let session = Session {
             is_new: false,
             earlier: self.session.last,
@@ -87,17 +87,17 @@ impl<'s> Case<'s> {
     }
 
     // What was synced before the next session, and what the house shows after it.
-    fn next(&self, alloc: Global, session: Session<'_>) -> Result<(Image, Vec<u8>), Fault> {
+    fn next(&self, alloc: Global, session: Session<'_>) -> Result<(Image, Vec<u8>), ScriptFault> {
         let base = self.next_base(alloc)?;
         let after = view_in(alloc, &base, self.room, session)?;
         if after == self.after {
-            return Err(Fault::Keep);
+            return Err(ScriptFault::Keep);
         }
         Ok((base, after))
     }
 
     // What was synced once all but the last command was given.
-    fn next_base(&self, alloc: Global) -> Result<Image, Fault> {
+    fn next_base(&self, alloc: Global) -> Result<Image, ScriptFault> {
         let pair = &Pair::of(alloc, &self.base)?;
         let session = Session {
             last: None,
@@ -105,11 +105,11 @@ impl<'s> Case<'s> {
         };
         let room = self.room;
         let _ = OnFiles { alloc, pair, room }.view(session)?;
-        pair.left(alloc, Loss::All).map_err(|_| Fault::Keep)
+        pair.left(alloc, Loss::All).map_err(|_| ScriptFault::Keep)
     }
 
     // Whether it can be done where it was found not to be.
-    fn can_be_done(&self, place: &OnFiles<'_>) -> Result<bool, Fault> {
+    fn can_be_done(&self, place: &OnFiles<'_>) -> Result<bool, ScriptFault> {
         let session = Session {
             earlier: None,
             ..self.session
@@ -118,13 +118,18 @@ impl<'s> Case<'s> {
     }
 
     // What is found in files that are opened again.
-    fn find(&self, alloc: Global, answer: Answer, place: &OnFiles<'_>) -> Result<Found, Fault> {
+    fn find(
+        &self,
+        alloc: Global,
+        answer: Answer,
+        place: &OnFiles<'_>,
+    ) -> Result<Found, ScriptFault> {
         if answer == Answer::Other {
             return Ok(Found::Answer);
         }
         // A house that can't be opened shows nothing.
         let there = match place.view(THERE) {
-            Err(Fault::Keep) => Vec::new(alloc),
+            Err(ScriptFault::Keep) => Vec::new(alloc),
             there => there?,
         };
         Ok(if there == self.after {
@@ -145,15 +150,15 @@ impl<'s> Case<'s> {
         answer: Answer,
         stopped: &Pair,
         loss: Loss,
-    ) -> Result<Found, Fault> {
-        let image = stopped.left(alloc, loss).map_err(|_| Fault::Keep)?;
+    ) -> Result<Found, ScriptFault> {
+        let image = stopped.left(alloc, loss).map_err(|_| ScriptFault::Keep)?;
         let pair = &Pair::of(alloc, &image)?;
         let room = self.room;
         self.find(alloc, answer, &OnFiles { alloc, pair, room })
     }
 
     // Stops a file, and looks what is left: whether it did stop.
-    fn stop(&self, alloc: Global, stop: Stop<'_>, tally: &mut Tally) -> Result<bool, Fault> {
+    fn stop(&self, alloc: Global, stop: Stop<'_>, tally: &mut Tally) -> Result<bool, ScriptFault> {
         let (pair, side, calls, room) = (stop.pair, stop.side, stop.calls, self.room);
         let answer = OnFiles { alloc, pair, room }.answer(self.session, stop)?;
         if !pair.has_stopped(side) {
@@ -170,7 +175,7 @@ impl<'s> Case<'s> {
     }
 
     // Stops one file after each number of calls, until a run ends with no stop.
-    fn stop_side(&self, alloc: Global, side: Side, tally: &mut Tally) -> Result<(), Fault> {
+    fn stop_side(&self, alloc: Global, side: Side, tally: &mut Tally) -> Result<(), ScriptFault> {
         for calls in 0..u64::MAX {
             let pair = &Pair::of(alloc, &self.base)?;
             if !self.stop(alloc, Stop { pair, side, calls }, tally)? {
@@ -181,7 +186,7 @@ impl<'s> Case<'s> {
     }
 
     /// Stops each file after each number of calls.
-    pub(crate) fn stops(&self, alloc: Global) -> Result<Tally, Fault> {
+    pub(crate) fn stops(&self, alloc: Global) -> Result<Tally, ScriptFault> {
         let mut tally = Tally::new();
         self.stop_side(alloc, Side::Log, &mut tally)?;
         self.stop_side(alloc, Side::Database, &mut tally)?;

@@ -1,6 +1,6 @@
 //! Houses on two files.
 use house_rows::KeepFault;
-use house_script::{Fault, settings};
+use house_script::{ScriptFault, settings};
 use sqlite::{Alter, Connection, FileStore, Options};
 use sqlite_disk::{Disk, Files};
 use std::alloc::Global;
@@ -33,10 +33,10 @@ pub(crate) struct Room {
 
 impl Room {
     /// The room that a line spells: `create READ WRITTEN LOGGED`.
-    pub(crate) fn of_line(line: &str) -> Result<Room, Fault> {
+    pub(crate) fn of_line(line: &str) -> Result<Room, ScriptFault> {
         let mut words = line.split_whitespace();
         if words.next() != Some("create") {
-            return Err(Fault::Script);
+            return Err(ScriptFault::Script);
         }
         Ok(Room {
             read: size(words.next())?,
@@ -47,8 +47,8 @@ impl Room {
 }
 
 // The size that a word spells.
-fn size(word: Option<&str>) -> Result<usize, Fault> {
-    word.unwrap_or("").parse().map_err(|_| Fault::Script)
+fn size(word: Option<&str>) -> Result<usize, ScriptFault> {
+    word.unwrap_or("").parse().map_err(|_| ScriptFault::Script)
 }
 
 /// The database on two files.

@@ -5,7 +5,7 @@
 //! played in one place.
 use crate::keeps::{Connects, Databases, InFile, InMemory, Lists};
 use crate::part::Place;
-use house_script::{Fault, ask, play};
+use house_script::{ScriptFault, ask, play};
 use sqlite::Alter;
 use std::alloc::Global;
 use std::fs;
@@ -15,8 +15,8 @@ use store::SqlKeep;
 const MARK: &str = "-- In SQLite.\n";
 
 /// Plays a section up to the mark on houses in memory, and after it in SQLite.
-pub(crate) fn play_both(rt: &HostRuntime, alloc: Global, lines: &str) -> Result<(), Fault> {
-    let (first, rest) = lines.split_once(MARK).ok_or(Fault::Script)?;
+pub(crate) fn play_both(rt: &HostRuntime, alloc: Global, lines: &str) -> Result<(), ScriptFault> {
+    let (first, rest) = lines.split_once(MARK).ok_or(ScriptFault::Script)?;
     play(rt, alloc, &Lists, first)?;
     print!(rt; "{MARK}")?;
     make(rt, alloc, &InMemory { alloc }, rest)
@@ -28,12 +28,12 @@ pub(crate) fn play_in(
     alloc: Global,
     place: &Place,
     script: &str,
-) -> Result<(), Fault> {
+) -> Result<(), ScriptFault> {
     match place {
         Place::Memory => play(rt, alloc, &Lists, script),
         Place::Sqlite => make(rt, alloc, &InMemory { alloc }, script),
         Place::New(path) => make(rt, alloc, &InFile::new(rt, path.as_str()), script),
-        Place::There(path) if !is_there(rt, path.as_str()) => Err(Fault::Keep),
+        Place::There(path) if !is_there(rt, path.as_str()) => Err(ScriptFault::Keep),
         Place::There(path) => ask_there(rt, alloc, &InFile::new(rt, path.as_str()), script),
     }
 }
@@ -44,7 +44,7 @@ fn make<S: Alter + Drop, C: Connects<S>>(
     alloc: Global,
     place: &C,
     script: &str,
-) -> Result<(), Fault> {
+) -> Result<(), ScriptFault> {
     play(rt, alloc, &Databases { place }, script)
 }
 
@@ -54,7 +54,7 @@ fn ask_there<S: Alter + Drop, C: Connects<S>>(
     alloc: Global,
     place: &C,
     script: &str,
-) -> Result<(), Fault> {
+) -> Result<(), ScriptFault> {
     let mut keep = SqlKeep::open(alloc, place.connection()?)?;
     ask(rt, alloc, &mut keep, script)
 }

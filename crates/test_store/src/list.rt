@@ -18,7 +18,7 @@ use crate::replay::play_replay;
 use crate::run_player::{Form, Tables, play_all, play_list};
 use auction_words::Replay;
 use house_rows::{Rate, Settings, Text};
-use house_script::Fault;
+use house_script::ScriptFault;
 use std::alloc::{AllocError, Global};
 use steps::{Bands, BandsFault};
 
@@ -30,27 +30,27 @@ pub(crate) struct Script<'s> {
 
 impl<'s> Script<'s> {
     /// The next line, if there is one.
-    pub(crate) fn line(&mut self) -> Result<Option<&'s str>, Fault> {
+    pub(crate) fn line(&mut self) -> Result<Option<&'s str>, ScriptFault> {
         if self.rest.is_empty() {
             return Ok(None);
         }
         let end = self.rest.iter().position(|byte| *byte == b'\n');
-        let line = self.bytes(end.ok_or(Fault::Script)?)?;
+        let line = self.bytes(end.ok_or(ScriptFault::Script)?)?;
         match str::from_utf8(line) {
             Ok(text) => Ok(Some(text)),
-            Err(_) => Err(Fault::Script),
+            Err(_) => Err(ScriptFault::Script),
         }
     }
 
     // So many bytes, and a line end after them, which is left out.
-    fn bytes(&mut self, count: usize) -> Result<&'s [u8], Fault> {
+    fn bytes(&mut self, count: usize) -> Result<&'s [u8], ScriptFault> {
         if count > self.rest.len() {
-            return Err(Fault::Script);
+            return Err(ScriptFault::Script);
         }
         let (bytes, rest) = self.rest.split_at(count);
         match rest.split_first() {
             Some((_, after)) => self.rest = after,
-            None => return Err(Fault::Script),
+            None => return Err(ScriptFault::Script),
         }
         Ok(bytes)
     }
@@ -78,7 +78,7 @@ impl Stage {
     }
 
     // Begins a list to new houses.
-    fn begin(&mut self, line: &str) -> Result<(), Fault> {
+    fn begin(&mut self, line: &str) -> Result<(), ScriptFault> {
         let (rate, zone) = first_word(line);
         self.rate = number(rate)?;
         self.zone.clear();
@@ -89,12 +89,12 @@ impl Stage {
     }
 
     // Adds a band.
-    fn add_band(&mut self, line: &str) -> Result<(), Fault> {
+    fn add_band(&mut self, line: &str) -> Result<(), ScriptFault> {
         let (at, step) = first_word(line);
         let band = (number(at)?, number(step)?);
         match self.bands.push(band) {
             Ok(()) => Ok(()),
-            Err(_) => Err(Fault::Memory),
+            Err(_) => Err(ScriptFault::Memory),
         }
     }
 
@@ -109,7 +109,7 @@ impl Stage {
         &mut self,
         alloc: Global,
         message: Result<String, AllocError>,
-    ) -> Result<(), Fault> {
+    ) -> Result<(), ScriptFault> {
         let message = message?;
         Ok(self.add(alloc, message.as_bytes())?)
     }
@@ -120,9 +120,9 @@ impl Stage {
         alloc: Global,
         script: &mut Script<'_>,
         count: &str,
-    ) -> Result<(), Fault> {
+    ) -> Result<(), ScriptFault> {
         let Ok(count) = count.parse::<usize>() else {
-            return Err(Fault::Script);
+            return Err(ScriptFault::Script);
         };
         let text = script.bytes(count)?;
         Ok(self.add(alloc, text)?)
@@ -138,7 +138,7 @@ impl Stage {
     }
 
     // The table of the houses.
-    fn bands(&self, alloc: Global) -> Result<Bands, Fault> {
+    fn bands(&self, alloc: Global) -> Result<Bands, ScriptFault> {
         let bands = if self.bands.is_empty() {
             Bands::example(alloc)
         } else {
@@ -146,14 +146,14 @@ impl Stage {
         };
         match bands {
             Ok(bands) => Ok(bands),
-            Err(BandsFault::Memory) => Err(Fault::Memory),
-            Err(_) => Err(Fault::Script),
+            Err(BandsFault::Memory) => Err(ScriptFault::Memory),
+            Err(_) => Err(ScriptFault::Script),
         }
     }
 
     /// The settings of the houses.
-    pub(crate) fn settings(&self, alloc: Global) -> Result<Settings, Fault> {
-        let rate = Rate::new(self.rate).ok_or(Fault::Script)?;
+    pub(crate) fn settings(&self, alloc: Global) -> Result<Settings, ScriptFault> {
+        let rate = Rate::new(self.rate).ok_or(ScriptFault::Script)?;
         let zone = Text::copy_of(alloc, self.zone.as_str())?;
         let bands = self.bands(alloc)?;
         Ok(Settings { bands, rate, zone })
@@ -161,10 +161,10 @@ impl Stage {
 }
 
 // The number that a word writes.
-fn number(word: &str) -> Result<u64, Fault> {
+fn number(word: &str) -> Result<u64, ScriptFault> {
     match word.parse::<u64>() {
         Ok(number) => Ok(number),
-        Err(_) => Err(Fault::Script),
+        Err(_) => Err(ScriptFault::Script),
     }
 }
 
@@ -176,7 +176,7 @@ pub(crate) fn tell_line(
     script: &mut Script<'_>,
     line: &str,
     report: &mut Vec<u8>,
-) -> Result<(), Fault> {
+) -> Result<(), ScriptFault> {
     let (word, rest) = first_word(line);
     match word {
         "" | "--" => Ok(()),
@@ -189,27 +189,27 @@ pub(crate) fn tell_line(
         "answers" => play_list(alloc, stage, tables(rest)?, Form::Answers, report),
         "run" => play_list(alloc, stage, tables(rest)?, Form::Run, report),
         "replay" => play_replay(alloc, stage, replay(rest)?, report),
-        _ => Err(Fault::Script),
+        _ => Err(ScriptFault::Script),
     }
 }
 
 // The tables that a word names.
-fn tables(word: &str) -> Result<Tables, Fault> {
+fn tables(word: &str) -> Result<Tables, ScriptFault> {
     match word {
         "lists" => Ok(Tables::Lists),
         "database" => Ok(Tables::Database),
-        _ => Err(Fault::Script),
+        _ => Err(ScriptFault::Script),
     }
 }
 
 // What words ask of a replay.
-fn replay(words: &str) -> Result<Replay, Fault> {
+fn replay(words: &str) -> Result<Replay, ScriptFault> {
     let (preset, record) = match words {
         "" => (false, false),
         "preset" => (true, false),
         "record" => (false, true),
         "preset record" => (true, true),
-        _ => return Err(Fault::Script),
+        _ => return Err(ScriptFault::Script),
     };
     Ok(Replay { preset, record })
 }

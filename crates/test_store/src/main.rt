@@ -25,7 +25,7 @@ mod sessions;
 mod stops;
 mod tally;
 
-use house_script::Fault;
+use house_script::ScriptFault;
 use part::{Part, named_part};
 use std::alloc::Global;
 use std::io::Read;
@@ -35,25 +35,25 @@ use std::process::ExitCode;
 const SECTION: &str = "> section ";
 
 // All of the standard input.
-fn read_all(rt: &impl Input, alloc: Global) -> Result<Vec<u8>, Fault> {
+fn read_all(rt: &impl Input, alloc: Global) -> Result<Vec<u8>, ScriptFault> {
     let mut bytes = Vec::new(alloc);
     match rt.reader().read_to_end(&mut bytes) {
         Ok(_) => Ok(bytes),
-        Err(_) => Err(Fault::Unread),
+        Err(_) => Err(ScriptFault::Unread),
     }
 }
 
 // A script that is text.
-fn text_of(script: &[u8]) -> Result<&str, Fault> {
+fn text_of(script: &[u8]) -> Result<&str, ScriptFault> {
     match str::from_utf8(script) {
         Ok(text) => Ok(text),
-        Err(_) => Err(Fault::Unread),
+        Err(_) => Err(ScriptFault::Unread),
     }
 }
 
 // Plays the sections of a script, which begins with the line of the first.
-fn play_sections(rt: &HostRuntime, alloc: Global, script: &str) -> Result<(), Fault> {
-    let sections = script.strip_prefix(SECTION).ok_or(Fault::Script)?;
+fn play_sections(rt: &HostRuntime, alloc: Global, script: &str) -> Result<(), ScriptFault> {
+    let sections = script.strip_prefix(SECTION).ok_or(ScriptFault::Script)?;
     for section in sections.split(SECTION) {
         play_section(rt, alloc, section)?;
     }
@@ -61,19 +61,24 @@ fn play_sections(rt: &HostRuntime, alloc: Global, script: &str) -> Result<(), Fa
 }
 
 // Plays a section, from its name on.
-fn play_section(rt: &HostRuntime, alloc: Global, section: &str) -> Result<(), Fault> {
+fn play_section(rt: &HostRuntime, alloc: Global, section: &str) -> Result<(), ScriptFault> {
     let (name, lines) = section.split_once('\n').unwrap_or((section, ""));
     println!(rt; "{SECTION}{name}")?;
     match name {
         "houses" => houses::play_both(rt, alloc, lines),
         "stops" => stops::play(rt, alloc, lines),
         "runs" => runs::play(rt, alloc, lines.as_bytes()),
-        _ => Err(Fault::Script),
+        _ => Err(ScriptFault::Script),
     }
 }
 
 // Plays a script of a part.
-fn play_part(rt: &HostRuntime, alloc: Global, part: &Part, script: &[u8]) -> Result<(), Fault> {
+fn play_part(
+    rt: &HostRuntime,
+    alloc: Global,
+    part: &Part,
+    script: &[u8],
+) -> Result<(), ScriptFault> {
     match part {
         Part::Sections => play_sections(rt, alloc, text_of(script)?),
         Part::Houses(place) => houses::play_in(rt, alloc, place, text_of(script)?),
@@ -82,7 +87,7 @@ fn play_part(rt: &HostRuntime, alloc: Global, part: &Part, script: &[u8]) -> Res
 }
 
 // Plays the script as the command line says.
-fn start(rt: &HostRuntime, alloc: Global) -> Result<(), Fault> {
+fn start(rt: &HostRuntime, alloc: Global) -> Result<(), ScriptFault> {
     let part = named_part(rt)?;
     let script = read_all(rt, alloc)?;
     play_part(rt, alloc, &part, &script)

@@ -1,4 +1,4 @@
-//! Messages as texts.
+//! The messages that a script's lines spell.
 use std::alloc::{AllocError, Global};
 use std::fmt::Write;
 

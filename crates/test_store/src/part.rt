@@ -1,5 +1,5 @@
 //! What the command line says.
-use house_script::Fault;
+use house_script::ScriptFault;
 use std::alloc::Global;
 use std::env;
 use std::io::ErrorKind;
@@ -31,10 +31,10 @@ pub(crate) enum Place {
 
 /// The part that the command line names: none, `runs`, `memory`, `sqlite`, `make FILE` or `ask
 /// FILE`.
-pub(crate) fn named_part(rt: &(impl Env + AllocGlobal)) -> Result<Part, Fault> {
+pub(crate) fn named_part(rt: &(impl Env + AllocGlobal)) -> Result<Part, ScriptFault> {
     let mut words = env::args(rt).map_err(|error| match error.kind() {
-        ErrorKind::OutOfMemory => Fault::Memory,
-        _ => Fault::Script,
+        ErrorKind::OutOfMemory => ScriptFault::Memory,
+        _ => ScriptFault::Script,
     })?;
     // The first word is the program's own name.
     let _ = words.next();
@@ -48,20 +48,20 @@ pub(crate) fn named_part(rt: &(impl Env + AllocGlobal)) -> Result<Part, Fault> {
 }
 
 // The part that a word names.
-fn part_of(word: &str) -> Result<Part, Fault> {
+fn part_of(word: &str) -> Result<Part, ScriptFault> {
     match word {
         "runs" => Ok(Part::Runs),
         "memory" => Ok(Part::Houses(Place::Memory)),
         "sqlite" => Ok(Part::Houses(Place::Sqlite)),
-        _ => Err(Fault::Script),
+        _ => Err(ScriptFault::Script),
     }
 }
 
 // The place that a word names with a path.
-fn place_at(word: &str, path: String) -> Result<Place, Fault> {
+fn place_at(word: &str, path: String) -> Result<Place, ScriptFault> {
     match word {
         "make" => Ok(Place::New(path)),
         "ask" => Ok(Place::There(path)),
-        _ => Err(Fault::Script),
+        _ => Err(ScriptFault::Script),
     }
 }

@@ -6,7 +6,7 @@ use auction_runs::replay_run;
 use auction_words::Replay;
 use device::{MemorySink, MemorySource};
 use house_rows::Keep;
-use house_script::{Fault, Makes};
+use house_script::{Makes, ScriptFault};
 use sqlite::Alter;
 use std::alloc::{AllocError, Global};
 
@@ -46,7 +46,7 @@ fn replay_over<K: Keep + Drop, M: Makes<K>>(
     stream: &[u8],
     asked: Replay,
     report: &mut Vec<u8>,
-) -> Result<(), Fault> {
+) -> Result<(), ScriptFault> {
     let house = makes.empty(alloc, stage.settings(alloc)?)?;
     Ok(replay(alloc, house, stream, asked, report)?)
 }
@@ -59,7 +59,7 @@ fn replay_in<S: Alter + Drop, C: Connects<S>>(
     stream: &[u8],
     asked: Replay,
     report: &mut Vec<u8>,
-) -> Result<(), Fault> {
+) -> Result<(), ScriptFault> {
     replay_over(alloc, &Databases { place }, stage, stream, asked, report)
 }
 
@@ -70,7 +70,7 @@ pub(crate) fn play_replay(
     stage: &Stage,
     asked: Replay,
     report: &mut Vec<u8>,
-) -> Result<(), Fault> {
+) -> Result<(), ScriptFault> {
     let stream = stage.stream(alloc)?;
     let mut first = Vec::new(alloc);
     replay_over(alloc, &Lists, stage, &stream, asked, &mut first)?;

@@ -6,7 +6,7 @@
 use crate::keeps::{Connects, Databases, InMemory, Lists, site_over};
 use crate::list::Stage;
 use house_rows::{Keep, KeepFault};
-use house_script::{Fault, Makes};
+use house_script::{Makes, ScriptFault};
 use site::{Reply, RunFault, Site};
 use sqlite::Alter;
 use std::alloc::{AllocError, Global};
@@ -37,10 +37,10 @@ pub(crate) fn tell(report: &mut Vec<u8>, text: &[u8]) -> Result<(), AllocError> 
 }
 
 // Reports a want of memory. Another fault is one of the keep.
-fn tell_refusal(report: &mut Vec<u8>, fault: KeepFault, refusal: &[u8]) -> Result<(), Fault> {
+fn tell_refusal(report: &mut Vec<u8>, fault: KeepFault, refusal: &[u8]) -> Result<(), ScriptFault> {
     match fault {
         KeepFault::Memory => Ok(tell(report, refusal)?),
-        KeepFault::Store | KeepFault::Damaged => Err(Fault::Keep),
+        KeepFault::Store | KeepFault::Damaged => Err(ScriptFault::Keep),
     }
 }
 
@@ -51,12 +51,12 @@ fn made_again<K: Keep + Drop, M: Makes<K>>(
     stage: &Stage,
     fault: KeepFault,
     report: &mut Vec<u8>,
-) -> Result<Site<K>, Fault> {
+) -> Result<Site<K>, ScriptFault> {
     tell_refusal(report, fault, b"site: Memory")?;
     let settings = stage.settings(alloc)?;
     match site_over(alloc, makes.empty(alloc, settings)) {
         Ok(site) => Ok(site),
-        Err(_) => Err(Fault::Keep),
+        Err(_) => Err(ScriptFault::Keep),
     }
 }
 
@@ -66,7 +66,7 @@ fn made<K: Keep + Drop, M: Makes<K>>(
     makes: &M,
     stage: &Stage,
     report: &mut Vec<u8>,
-) -> Result<Site<K>, Fault> {
+) -> Result<Site<K>, ScriptFault> {
     let settings = stage.settings(alloc)?;
     match site_over(alloc, makes.empty(alloc, settings)) {
         Ok(site) => Ok(site),
@@ -89,7 +89,7 @@ fn tell_answers<K: Keep + Drop>(
     site: &mut Site<K>,
     messages: &[Vec<u8>],
     report: &mut Vec<u8>,
-) -> Result<(), Fault> {
+) -> Result<(), ScriptFault> {
     for message in messages {
         tell_answer(site, message, report)?;
     }
@@ -101,18 +101,18 @@ fn run<K: Keep + Drop>(
     site: &mut Site<K>,
     messages: &[Vec<u8>],
     report: &mut Vec<u8>,
-) -> Result<Vec<Reply>, Fault> {
+) -> Result<Vec<Reply>, ScriptFault> {
     match site.run(messages) {
         Ok(replies) => Ok(replies),
         Err(RunFault::Memory) => {
             tell(report, b"run: Memory")?;
-            site.run(messages).map_err(|_| Fault::Keep)
+            site.run(messages).map_err(|_| ScriptFault::Keep)
         }
     }
 }
 
 // Reports replies.
-fn tell_replies(replies: &[Reply], report: &mut Vec<u8>) -> Result<(), Fault> {
+fn tell_replies(replies: &[Reply], report: &mut Vec<u8>) -> Result<(), ScriptFault> {
     for reply in replies {
         tell(report, reply)?;
     }
@@ -124,25 +124,28 @@ fn tell_run<K: Keep + Drop>(
     site: &mut Site<K>,
     messages: &[Vec<u8>],
     report: &mut Vec<u8>,
-) -> Result<(), Fault> {
+) -> Result<(), ScriptFault> {
     let replies = run(site, messages, report)?;
     tell_replies(&replies, report)
 }
 
 // Reports whether the house is new.
-fn tell_new<K: Keep + Drop>(site: &mut Site<K>, report: &mut Vec<u8>) -> Result<(), Fault> {
-    let is_new = site.is_new().map_err(|_| Fault::Keep)?;
+fn tell_new<K: Keep + Drop>(site: &mut Site<K>, report: &mut Vec<u8>) -> Result<(), ScriptFault> {
+    let is_new = site.is_new().map_err(|_| ScriptFault::Keep)?;
     let word: &[u8] = if is_new { b"new" } else { b"not new" };
     Ok(tell(report, word)?)
 }
 
 // The public record.
-fn record<K: Keep + Drop>(site: &mut Site<K>, report: &mut Vec<u8>) -> Result<Vec<u8>, Fault> {
+fn record<K: Keep + Drop>(
+    site: &mut Site<K>,
+    report: &mut Vec<u8>,
+) -> Result<Vec<u8>, ScriptFault> {
     match site.record() {
         Ok(record) => Ok(record),
         Err(fault) => {
             tell_refusal(report, fault, b"record: Memory")?;
-            site.record().map_err(|_| Fault::Keep)
+            site.record().map_err(|_| ScriptFault::Keep)
         }
     }
 }
@@ -153,7 +156,7 @@ fn tell_all<K: Keep + Drop>(
     messages: &[Vec<u8>],
     form: Form,
     report: &mut Vec<u8>,
-) -> Result<(), Fault> {
+) -> Result<(), ScriptFault> {
     tell_new(site, report)?;
     match form {
         Form::Answers => tell_answers(site, messages, report)?,
@@ -171,7 +174,7 @@ fn play_over<K: Keep + Drop, M: Makes<K>>(
     stage: &Stage,
     form: Form,
     report: &mut Vec<u8>,
-) -> Result<(), Fault> {
+) -> Result<(), ScriptFault> {
     let mut site = made(alloc, makes, stage, report)?;
     tell_all(&mut site, stage.messages.as_slice(), form, report)
 }
@@ -183,7 +186,7 @@ fn play_in<S: Alter + Drop, C: Connects<S>>(
     stage: &Stage,
     form: Form,
     report: &mut Vec<u8>,
-) -> Result<(), Fault> {
+) -> Result<(), ScriptFault> {
     play_over(alloc, &Databases { place }, stage, form, report)
 }
 
@@ -194,7 +197,7 @@ pub(crate) fn play_list(
     tables: Tables,
     form: Form,
     report: &mut Vec<u8>,
-) -> Result<(), Fault> {
+) -> Result<(), ScriptFault> {
     match tables {
         Tables::Lists => play_over(alloc, &Lists, stage, form, report),
         Tables::Database => play_in(alloc, &InMemory { alloc }, stage, form, report),
@@ -223,7 +226,11 @@ pub(crate) fn tell_same(
 
 /// Reports the replies to the list over a new house in lists, and its record; and whether it is the
 /// same in a database, and where the list is run.
-pub(crate) fn play_all(alloc: Global, stage: &Stage, report: &mut Vec<u8>) -> Result<(), Fault> {
+pub(crate) fn play_all(
+    alloc: Global,
+    stage: &Stage,
+    report: &mut Vec<u8>,
+) -> Result<(), ScriptFault> {
     let mut first = Vec::new(alloc);
     play_list(alloc, stage, Tables::Lists, Form::Answers, &mut first)?;
     report.extend_from_slice(&first)?;

@@ -1,7 +1,7 @@
 //! The section of runs: lists of messages over new houses in memory and in databases, one by one,
 //! as one list and as a replay. `list` says what a line may be; read it first, and then `run_player`.
 use crate::list::{Script, Stage, tell_line};
-use house_script::Fault;
+use house_script::ScriptFault;
 use std::alloc::Global;
 use std::io;
 use std::io::Write;
@@ -9,7 +9,7 @@ use transcript::echo;
 
 /// Plays lists of messages on a stage of their own. What owns the stage has one end: each end more
 /// would drop it once more.
-pub(crate) fn play(rt: &impl Print, alloc: Global, lines: &[u8]) -> Result<(), Fault> {
+pub(crate) fn play(rt: &impl Print, alloc: Global, lines: &[u8]) -> Result<(), ScriptFault> {
     let mut stage = Stage::new(alloc);
     play_lines(rt, alloc, &mut stage, lines)
 }
@@ -20,7 +20,7 @@ fn play_lines(
     alloc: Global,
     stage: &mut Stage,
     lines: &[u8],
-) -> Result<(), Fault> {
+) -> Result<(), ScriptFault> {
     let mut script = Script { rest: lines };
     for _ in 0..lines.len() {
         let Some(line) = script.line()? else {
@@ -38,7 +38,7 @@ fn play_line(
     stage: &mut Stage,
     script: &mut Script<'_>,
     line: &str,
-) -> Result<(), Fault> {
+) -> Result<(), ScriptFault> {
     let line = echo(rt, line)?;
     let mut report = Vec::new(alloc);
     tell_line(alloc, stage, script, line, &mut report)?;

@@ -5,7 +5,7 @@ use crate::files::{Opens, create};
 use crate::keeps::site_over;
 use crate::messages::{command, first_word};
 use house_rows::{Keep, KeepFault};
-use house_script::{Fault, answer};
+use house_script::{ScriptFault, answer};
 use site::Site;
 use sqlite::Alter;
 use std::alloc::{AllocError, Global};
@@ -73,7 +73,7 @@ pub(crate) fn view<S: Alter + Drop, O: Opens<S>>(
     alloc: Global,
     place: &O,
     session: Session<'_>,
-) -> Result<Vec<u8>, Fault> {
+) -> Result<Vec<u8>, ScriptFault> {
     if session.is_new {
         view_of(alloc, create(alloc, place), session)
     } else {
@@ -85,7 +85,7 @@ fn view_of<K: Keep + Drop>(
     alloc: Global,
     house: Result<K, KeepFault>,
     session: Session<'_>,
-) -> Result<Vec<u8>, Fault> {
+) -> Result<Vec<u8>, ScriptFault> {
     let mut site = site_over(alloc, house)?;
     view_after(alloc, &mut site, session)
 }
@@ -94,7 +94,7 @@ fn view_after<K: Keep + Drop>(
     alloc: Global,
     site: &mut Site<K>,
     session: Session<'_>,
-) -> Result<Vec<u8>, Fault> {
+) -> Result<Vec<u8>, ScriptFault> {
     take(alloc, site, session.earlier)?;
     take(alloc, site, session.last)?;
     let mut shown = site.record()?;
@@ -105,7 +105,7 @@ fn view_after<K: Keep + Drop>(
 }
 
 // Adds all that the house shows beside its record.
-fn add_view<K: Keep>(alloc: Global, keep: &mut K, shown: &mut Vec<u8>) -> Result<(), Fault> {
+fn add_view<K: Keep>(alloc: Global, keep: &mut K, shown: &mut Vec<u8>) -> Result<(), ScriptFault> {
     for question in SHOWN {
         add_answer(alloc, keep, shown, question)?;
     }
@@ -132,24 +132,24 @@ fn add_answer<K: Keep>(
     keep: &mut K,
     shown: &mut Vec<u8>,
     question: &str,
-) -> Result<(), Fault> {
+) -> Result<(), ScriptFault> {
     let answer = answer(alloc, keep, question)?;
     Ok(add_line(shown, answer.as_bytes())?)
 }
 
 // The message that a line spells: `post MEMBER MOMENT TARGET BODY`.
-fn message(alloc: Global, line: &str) -> Result<String, Fault> {
+fn message(alloc: Global, line: &str) -> Result<String, ScriptFault> {
     let (word, rest) = first_word(line);
     if word != "post" {
-        return Err(Fault::Script);
+        return Err(ScriptFault::Script);
     }
     Ok(command(alloc, rest)?)
 }
 
 // What a reply says.
-fn answer_of(reply: &[u8]) -> Result<Answer, Fault> {
+fn answer_of(reply: &[u8]) -> Result<Answer, ScriptFault> {
     if reply.starts_with(b"HTTP/1.1 503 ") {
-        Err(Fault::Memory)
+        Err(ScriptFault::Memory)
     } else if reply.starts_with(b"HTTP/1.1 20") {
         Ok(Answer::Done)
     } else if reply.starts_with(b"HTTP/1.1 500 ") && reply.ends_with(b"\"store\"}") {
@@ -160,7 +160,7 @@ fn answer_of(reply: &[u8]) -> Result<Answer, Fault> {
 }
 
 // What is answered to a message.
-fn give<K: Keep + Drop>(site: &mut Site<K>, message: &[u8]) -> Result<Answer, Fault> {
+fn give<K: Keep + Drop>(site: &mut Site<K>, message: &[u8]) -> Result<Answer, ScriptFault> {
     let reply = site.answer(message);
     answer_of(&reply)
 }
@@ -170,14 +170,14 @@ fn take<K: Keep + Drop>(
     alloc: Global,
     site: &mut Site<K>,
     command: Option<&str>,
-) -> Result<(), Fault> {
+) -> Result<(), ScriptFault> {
     let Some(line) = command else {
         return Ok(());
     };
     let message = message(alloc, line)?;
     match give(site, message.as_bytes())? {
         Answer::Done => Ok(()),
-        _ => Err(Fault::Keep),
+        _ => Err(ScriptFault::Keep),
     }
 }
 
@@ -188,7 +188,7 @@ pub(crate) fn answer_at_stop<S: Alter + Drop, O: Opens<S>>(
     place: &O,
     session: Session<'_>,
     stop: Stop<'_>,
-) -> Result<Answer, Fault> {
+) -> Result<Answer, ScriptFault> {
     let Some(last) = session.last else {
         stop.begin();
         return answer_to_making(create(alloc, place));
@@ -197,7 +197,7 @@ pub(crate) fn answer_at_stop<S: Alter + Drop, O: Opens<S>>(
 }
 
 // What is answered to the making of a house.
-fn answer_to_making<K: Keep + Drop>(house: Result<K, KeepFault>) -> Result<Answer, Fault> {
+fn answer_to_making<K: Keep + Drop>(house: Result<K, KeepFault>) -> Result<Answer, ScriptFault> {
     match house {
         Ok(_) => Ok(Answer::Done),
         Err(fault) => answer_to_fault(fault),
@@ -210,7 +210,7 @@ fn answer_in<K: Keep + Drop>(
     earlier: Option<&str>,
     last: &str,
     stop: Stop<'_>,
-) -> Result<Answer, Fault> {
+) -> Result<Answer, ScriptFault> {
     let mut site = site_over(alloc, house)?;
     answer_after(alloc, &mut site, earlier, last, stop)
 }
@@ -221,7 +221,7 @@ fn answer_after<K: Keep + Drop>(
     earlier: Option<&str>,
     last: &str,
     stop: Stop<'_>,
-) -> Result<Answer, Fault> {
+) -> Result<Answer, ScriptFault> {
     take(alloc, site, earlier)?;
     let message = message(alloc, last)?;
     stop.begin();
@@ -229,7 +229,7 @@ fn answer_after<K: Keep + Drop>(
 }
 
 // What is answered to a command. Where that is Store, so is all that is asked later.
-fn answer_to<K: Keep + Drop>(site: &mut Site<K>, message: &[u8]) -> Result<Answer, Fault> {
+fn answer_to<K: Keep + Drop>(site: &mut Site<K>, message: &[u8]) -> Result<Answer, ScriptFault> {
     let answer = give(site, message)?;
     if answer != Answer::Store || is_shut(site, message)? {
         return Ok(answer);
@@ -238,16 +238,16 @@ fn answer_to<K: Keep + Drop>(site: &mut Site<K>, message: &[u8]) -> Result<Answe
 }
 
 // What a fault is as an answer.
-fn answer_to_fault(fault: KeepFault) -> Result<Answer, Fault> {
+fn answer_to_fault(fault: KeepFault) -> Result<Answer, ScriptFault> {
     match fault {
         KeepFault::Store => Ok(Answer::Store),
         KeepFault::Damaged => Ok(Answer::Other),
-        KeepFault::Memory => Err(Fault::Memory),
+        KeepFault::Memory => Err(ScriptFault::Memory),
     }
 }
 
 // Whether the record, a look-up and a command are answered Store.
-fn is_shut<K: Keep + Drop>(site: &mut Site<K>, message: &[u8]) -> Result<bool, Fault> {
+fn is_shut<K: Keep + Drop>(site: &mut Site<K>, message: &[u8]) -> Result<bool, ScriptFault> {
     let again = give(site, message)?;
     Ok(
         again == Answer::Store

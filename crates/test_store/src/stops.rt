@@ -11,7 +11,7 @@
 //! Read `case` first.
 use crate::case::Case;
 use crate::files::Room;
-use house_script::Fault;
+use house_script::ScriptFault;
 use std::alloc::Global;
 use transcript::echo;
 
@@ -26,7 +26,12 @@ fn name(line: &str) -> &str {
 }
 
 // Stops what is to be stopped, and reports what came of it.
-fn tell(rt: &(impl Print + Eprint), alloc: Global, name: &str, case: &Case) -> Result<(), Fault> {
+fn tell(
+    rt: &(impl Print + Eprint),
+    alloc: Global,
+    name: &str,
+    case: &Case,
+) -> Result<(), ScriptFault> {
     let tally = case.stops(alloc)?;
     println!(rt; "{}", tally.verdict(alloc, name)?)?;
     Ok(eprintln!(rt; "{name}: {tally:?}")?)
@@ -34,7 +39,11 @@ fn tell(rt: &(impl Print + Eprint), alloc: Global, name: &str, case: &Case) -> R
 
 /// Makes a house by the line of its making, and gives it the commands of the lines that follow.
 /// What owns the case has one end: each end more would drop it once more.
-pub(crate) fn play(rt: &(impl Print + Eprint), alloc: Global, lines: &str) -> Result<(), Fault> {
+pub(crate) fn play(
+    rt: &(impl Print + Eprint),
+    alloc: Global,
+    lines: &str,
+) -> Result<(), ScriptFault> {
     let mut case = None;
     play_lines(rt, alloc, &mut case, lines)
 }
@@ -45,7 +54,7 @@ fn play_lines<'s>(
     alloc: Global,
     case: &mut Option<Case<'s>>,
     lines: &'s str,
-) -> Result<(), Fault> {
+) -> Result<(), ScriptFault> {
     for line in lines.lines() {
         play_line(rt, alloc, case, line)?;
     }
@@ -58,7 +67,7 @@ fn play_line<'s>(
     alloc: Global,
     case: &mut Option<Case<'s>>,
     line: &'s str,
-) -> Result<(), Fault> {
+) -> Result<(), ScriptFault> {
     let line = echo(rt, line)?;
     if line.is_empty() || line.starts_with("--") {
         return Ok(());
