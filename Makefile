@@ -8,8 +8,8 @@ DESCRIBED = editions surplus-with-reserves
 # How many messages the fuzz sends at least, how many answers spoiled ones have to get, how many pairs of lists are audited
 # that are equal and that are apart, how often a server is killed, how many rows a lot file has, and the seed that chooses
 # them; that each EVERYth call on files stops, or has a power cut after it, and each EVERYth value is spoiled; the
-# crates whose wrong bodies make wrong tries, all where there are none; and the bodies that make giving puts in, eight where
-# there are none.
+# crates whose wrong bodies make wrong and make reasons try, and in which make mutants and make plant put some, all where there
+# are none; how many mutants are drawn; and the bodies that make giving puts in, eight where there are none.
 MESSAGES ?= 5000
 MUTATED ?= 100000
 KILLS ?= 200
@@ -18,6 +18,7 @@ ROWS ?= 20000
 PAIRS ?= 1000
 SEED ?= 2026
 CRATES ?=
+COUNT ?= 100
 BODIES ?=
 
 # How many seconds fifty clients ask through the gateway, how often the house is started anew under them, and how many copies
@@ -31,8 +32,8 @@ PICTURES ?=
 PAGES ?= 1000
 
 # What shellcheck reads.
-SCRIPTS = .ci/run examples/service/alarm $(addprefix examples/package/,completion.bash postinst postrm prerm) \
-	$(wildcard bench/*.sh examples/*/*.sh examples/*/*/*.sh tests/*/*.sh tests/*/*/*.sh)
+SCRIPTS = .ci/run deploy/service/alarm $(addprefix deploy/package/,completion.bash postinst postrm prerm) \
+	$(wildcard bench/*.sh deploy/*/*.sh deploy/*/*/*.sh tests/*/*.sh tests/*/*/*.sh)
 
 # Debian's packages of these five: nginx to util-linux are needed, the others are left out where they aren't there. The page
 # needs chromium-driver too, and its modules and types are tested where nodejs and node-typescript are there.
@@ -47,8 +48,8 @@ SERVICE_PACKAGES = prometheus haproxy
 DEB_PACKAGES = lintian debootstrap systemd-container
 
 .PHONY: help demo session test auction program cases rows fuzz mutated twins memory allocations statement random file \
-	columns office kills stops cuts stalls counts wrong giving axioms documents openapi gateway load page backup service replica \
-	disks deb packages
+	columns office kills stops cuts stalls counts wrong reasons mutants plant giving axioms documents openapi gateway load page backup \
+	service replica disks deb packages
 
 help:
 	@echo "For a newcomer"
@@ -61,6 +62,11 @@ help:
 	@echo "                 it is and when it should end; out/ has all lines, and the minutes by crate and step; first it has"
 	@echo "                 shellcheck read the shell scripts, where that is there"
 	@echo "  make wrong     tries the wrong bodies that make test leaves out, of the crates CRATES=\"a b\" or of all"
+	@echo "  make reasons   says for what reason each wrong body of the crates CRATES=\"a b\" or of all is refused: at a clause, at a"
+	@echo "                 panic, or for none that counts; it begins where the last run stopped, and takes hours for all"
+	@echo "  make mutants   puts in COUNT small wrong edits that SEED draws, in the crates CRATES=\"a b\" or in all, and says what refuses"
+	@echo "                 each; shows those that are proved"
+	@echo "  make plant     has the kit plant wrong bodies in the crates CRATES=\"a b\" or in all (rt plant), and makes a page of it"
 	@echo "  make giving    puts in bodies that give up, those named in BODIES=\"a b\", and looks whether the tests find them"
 	@echo "  make axioms    lists what the proof of the program assumes, as the prover tells it: each function of C, and the libraries"
 	@echo "                 that it takes as the kit has them built; some minutes after make auction"
@@ -86,7 +92,7 @@ help:
 	@echo "  make counts    counts the statements that a bid and pages make of a house in a file (needs valgrind)"
 	@echo "  make stalls    has clients that send or read nothing hold up one that asks, for up to two minutes"
 	@echo
-	@echo "What is around the program, from examples/"
+	@echo "What is around the program, from deploy/"
 	@echo "  make packages  installs Debian's packages that these need, as root"
 	@echo "  make gateway   has clients ask and bid through nginx and haproxy for PERIOD, and the house start anew RESTARTS times"
 	@echo "  make load      has PAGES pages of an item open in its last minute, through the gateway, while a member bids (needs wrk)"
@@ -129,7 +135,7 @@ has-curl:
 has-tests:
 	@test -x crates/test_store/out/test_store || { echo "no crates/test_store/out: run make test first"; exit 1; }
 
-demo test auction wrong giving axioms: has-kit
+demo test auction wrong reasons mutants plant giving axioms: has-kit
 session: has-bin has-curl
 program cases fuzz mutated twins memory allocations file columns office kills stops cuts stalls counts documents: has-program
 gateway load page backup service replica disks deb: has-program
@@ -264,6 +270,15 @@ openapi:
 
 wrong:
 	python3 tests/kit/wrong.py $(CRATES)
+
+reasons:
+	python3 tests/kit/reasons.py $(CRATES)
+
+mutants:
+	python3 tests/kit/mutants.py $(SEED) $(COUNT) $(CRATES)
+
+plant:
+	python3 tests/kit/plant.py $(CRATES)
 
 giving:
 	python3 tests/kit/giving_up.py $(BODIES)
