@@ -14,13 +14,9 @@ abbrev pub served : ℕ → List ℕ
 served count = codes "served " ++ decimal count ++ 10 ∷ []
 
 -- a house is upgraded, or it was of version 2 before
-abbrev pub upgraded_word : Bool → List ℕ
-upgraded_word true = codes "upgraded"
-upgraded_word false = codes "is version 2"
-
--- and its line
 abbrev pub upgraded_line : Bool → List ℕ
-upgraded_line upgraded = upgraded_word upgraded ++ 10 ∷ []
+upgraded_line true = codes "upgraded" ++ 10 ∷ []
+upgraded_line false = codes "is version 2" ++ 10 ∷ []
 
 -- a band table was set, as this edition
 abbrev pub edition_line : ℕ → List ℕ

@@ -4,18 +4,23 @@ ghost use Rattle.auction_runs.specs.Lines.{IsReported};
 ghost use Rattle.std.specs.Prelude.{◌≡◌, ◌≤◌, IfErr, IsOk, OnOk};
 ghost use Rattle.std.specs.Io.KnownBytes.{Appends};
 ghost use Rattle.auction_runs.specs.Over.{IsOver};
-ghost use Rattle.auction_runs.specs.Printed.{upgraded_line, upgraded_word};
+ghost use Rattle.auction_runs.specs.Printed.{upgraded_line};
 
 use crate::fault::{TaskFault, finish_run};
 use device::Sink;
 use house_rows::{Ends, KeepFault};
 use std::io::Write;
 
-// What is reported of a house that is upgraded, and of one that was of version 2 before.
-fn word(upgraded: bool) -> &'static str
-    ensures { result.now ≡ upgraded_word upgraded }
+// The line of a house that is upgraded, or of one that was of version 2 before. It is given to the
+// output by one call, so that a process that is killed has written all of it or nothing.
+fn line(upgraded: bool) -> &'static [u8]
+    ensures { result.now ≡ upgraded_line upgraded }
 {
-    if upgraded { "upgraded" } else { "is version 2" }
+    if upgraded {
+        b"upgraded\n"
+    } else {
+        b"is version 2\n"
+    }
 }
 
 // Reports whether the house is upgraded.
@@ -24,7 +29,7 @@ fn write_version<W: Write>(output: &mut W, upgraded: bool) -> Result<(), TaskFau
         (Appends (W.contents output.old) (W.contents output.new) (upgraded_line upgraded)) }
     ensures fault { IfErr result (λ fault. fault ≡ TaskFault.Write) }
 {
-    match writeln!(output, "{}", word(upgraded)) {
+    match output.write_all(line(upgraded)) {
         Ok(()) => Ok(()),
         Err(_) => Err(TaskFault::Write),
     }
