@@ -1,6 +1,6 @@
 -- What is handed out is of items whose rows are consistent.
 use Rattle.std.proofs.Common.{◌≡◌, ◌≤◌, ◌⊎◌, ◌||◌, refl, ℕ, Bool, true, false, not, List, [], ◌∷◌, map, filter, find, option_map, Option, Some, Result, Ok, Err, inl, inr, sym, subst}
-use Rattle.std.specs.Prelude.{◌==◌, IfOk, IfSome, OnOk}
+use Rattle.std.specs.Prelude.{◌==◌, IfSome, OnOk}
 use Rattle.std.specs.List.{AllByRecursion, list_any}
 use Rattle.sqlite_trees.specs.Tree.{Trees}
 use Rattle.sqlite_keyed.proofs.ListLemmas.{all_both, all_unmap, all-filter}
@@ -27,10 +27,6 @@ use Rattle.store_items.proofs.Rows.{whole}
 pub ok_so : {A E : Type 0} {P : Type 0} (r : Result A E) → P → OnOk r P
 ok_so (Ok a) so = so
 ok_so (Err e) so = tt
-
-pub ok_both : {A E : Type 0} {P Q : A → Type 0} {R : Type 0} (r : Result A E) → IfOk r P → IfOk r Q → ((a : A) → P a → Q a → R) → OnOk r R
-ok_both (Ok a) p q so = so a p q
-ok_both (Err e) p q so = tt
 
 -- ---- the rows that pass a test
 

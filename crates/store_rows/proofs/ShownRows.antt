@@ -28,15 +28,6 @@ row_fits report Fits [] i r low all = absurd (omega (arith, low))
 row_fits report Fits (x ∷ rows) zero r low all = all.0
 row_fits report Fits (x ∷ rows) (suc i) r low all = row_fits report Fits rows i r (omega (arith, low)) all.1
 
--- a part of what is found in a table whose rows fit
-pub part_fits : {T U : Type 0} (part : T → U) (P : T → Type 0) (Fits : U → Type 0) → ((x : T) → P x → Fits (part x)) → (p : T → Bool) (table : List T) → AllByRecursion P table → IfSome (option_map part (find p table)) Fits
-part_fits part P Fits each p [] all = search
-part_fits part P Fits each p (x ∷ table) all = go (p x) (part_fits part P Fits each p table all.1)
-  where
-    go : (b : Bool) → IfSome (option_map part (find p table)) Fits → IfSome (option_map part (cond b (Some x) (find p table))) Fits
-    go true later = each x all.0
-    go false later = later
-
 -- of rows that fit where they pass a test those fit that pass it
 pub kept_where : {T : Type 0} (p : T → Bool) (Fits : T → Type 0) (table : List T) → AllByRecursion (λ x. p x ≡ true → Fits x) table → AllByRecursion Fits (filter p table)
 kept_where p Fits [] fits = tt

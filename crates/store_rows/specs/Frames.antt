@@ -30,7 +30,8 @@ pub record WritesMany {A E : Type 0} (old new : State) (result : Result A E) : T
   pub crash : Survives old new (λ _. ⊥)
 
 -- What a look-up promises. As far as the disk returned what was written, the answer is what is asked for of the rows, and it is
--- `Damaged` only where rows that it takes don't fit. Whatever the disk did, nothing is changed.
+-- `Damaged` only where rows that it takes don't fit; an answer changes nothing, and an error at most undoes what wasn't committed.
+-- Whatever the disk did, no transaction is begun, and a crash leaves what it left before.
 pub record Finds {S A : Type 0} (g : Ghosts S) (old new : Held S) (result : Result A KeepFault) (IsAnswer : Trees → A → Type 0) (Fit : Trees → Type 0) : Type 0 where
   pub value : HasCleanDisk (state g new) → IfOk result (IsAnswer (state g old).now.trees)
   pub damaged : HasCleanDisk (state g new) → Fit (state g old).now.trees → IsUndamaged result

@@ -12,7 +12,8 @@ use house_rows::{Feedback, KeepFault};
 use sqlite::{Alter, Connection, params};
 use store_rows::{first_of, rows_shown};
 
-/// Whether a member has given feedback on an item. A row of this key that doesn't fit is `Damaged`.
+/// Whether a member has given feedback on an item. `Damaged` is answered only where a row of this
+/// giver doesn't fit, of whatever item it tells.
 pub fn is_given<S: Alter>(
     conn: &mut Connection<S>,
     item: u32,
