@@ -106,7 +106,7 @@ class Upgrades:
         process.kill()
         printed = process.communicate()[0]
         rows = found(self.path)[1]
-        check("printed", printed in ([b"", UPGRADED[1]] if rows == self.second else [b""]), True)
+        check("printed", printed, UPGRADED[1] if printed and rows == self.second else b"")
         check("one or the other", rows in (self.first, self.second), True)
         self.left[1 if rows == self.first else 2] += 1
         self.reported += bool(printed)
