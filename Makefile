@@ -118,7 +118,7 @@ has-kit:
 	@command -v rt > /dev/null || { echo "no rt: README.md says what the kit is"; exit 1; }
 
 has-program:
-	@test -x crates/auction/out/auction || { echo "no bin/auction: run make auction first"; exit 1; }
+	@test -x crates/auction/out/auction || { echo "no crates/auction/out/auction: run make auction first"; exit 1; }
 
 has-bin:
 	@test -x bin/auction || { echo "no bin/auction: run make auction first"; exit 1; }

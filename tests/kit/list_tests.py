@@ -19,7 +19,7 @@ FOLDERS = {
     "program": "What the program answers, whatever comes, and that nobody sees what others sealed.",
     "office": "Lot files, statements and audits.",
     "files": "What lies in the file of a house, and what kills, power cuts, upgrades and a failing disk leave.",
-    "memory": "That want of memory is told, and changes nothing else.",
+    "memory": "That running out of memory is reported, and changes nothing else.",
     "documents": "That the documents say what is so.",
     "web": "What is around the program, in deploy/: the gateway, its page, the service and the package.",
     "kit": "What runs the gate, and looks at what it would miss.",
@@ -27,8 +27,8 @@ FOLDERS = {
 HEAD = """\
 # The tests
 
-Made by `kit/list_tests.py` of the first lines of the scripts. [TESTS.md](../docs/TESTS.md) says
-what they show, and what is only tested.
+Made by `kit/list_tests.py` of the first lines of the scripts. [TESTS.md](../docs/TESTS.md) goes
+by what they show, and begins with the five promises.
 
 What lies in `lib/` is imported, and so is what lies in `web/parts/`; each script in the other
 folders is called, as its first lines say, from any folder. PROGRAM is `crates/auction/out/auction`,
@@ -38,8 +38,9 @@ says how much was checked, and how much of it was wrong.
 
 To read them, begin in `lib/`: `plain_house.py` and `plain_site.py` are the rules in plain Python,
 which most scripts compare with; `sent.py` has messages and answers as texts, `serving.py` the
-program as it serves, and `checks.py` the count of what is wrong. `kit/judges.py` tests those that
-judge. Then read the folders in this order, each from its first script on.
+program as it serves, and `checks.py` the count of what is wrong. `kit/judges.py` tests the parts
+of `lib/` by which the others judge. Then read the folders in this order, each from its first
+script on.
 
 A new script goes into the folder of its subject, under a name that no other has. Its first line
 says what it does, and then its call; a line `Promise: ..` names those of the five promises for

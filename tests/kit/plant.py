@@ -1,5 +1,5 @@
 #!/usr/bin/env python3
-"""Has the kit plant wrong bodies in crates, and makes docs/PLANTED.md of what came of it: `plant.py [--kept] [NAME..]`.
+"""Has the kit plant wrong bodies in crates, and writes what came of it into docs/PLANTED.md: `plant.py [--kept] [NAME..]`.
 
 `rt plant` puts wrong bodies under a crate's public functions: some give up, others call the real function and change an argument,
 the result or a field. It runs here over each of named crates, or of all but those of tests and benches, in a copy, and for as long

@@ -1,7 +1,7 @@
 #!/usr/bin/env python3
-"""Runs the gateway of deploy/gateway over the program, and drives it: `gateway.py PROGRAM [SECONDS [RESTARTS]]`.
+"""Drives the gateway, through which nobody can speak for another member: `gateway.py PROGRAM [SECONDS [RESTARTS]]`.
 
-start.sh, first_bids.sh, account.sh and stop.sh run as an ordinary user: as nobody where a superuser runs this. Then signed-in
+start.sh, first_bids.sh, account.sh and stop.sh of deploy/gateway run as an ordinary user: as nobody where a superuser runs this. Then signed-in
 clients show what the page of the gateway says:
 
 - who isn't signed in gets 401, and who is can't speak for another by any spelling of the two headers
