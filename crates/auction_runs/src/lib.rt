@@ -16,6 +16,7 @@ mod fault;
 mod import;
 mod init;
 mod line;
+mod output;
 mod replay;
 mod serve;
 mod setup;

@@ -13,6 +13,7 @@ ghost use Rattle.site_serve.specs.Serving.{keep_of};
 
 use crate::ended::outcome_after_end;
 use crate::fault::{TaskFault, finish_run};
+use crate::output::write_line;
 use device::Sink;
 use house_rows::{Ends, Keep, KeepFault};
 use site::Site;
@@ -47,18 +48,6 @@ pub fn site_over<K: Keep + Drop>(alloc: Global, keep: K) -> Result<Site<K>, Task
     match begin_site(alloc, keep) {
         Ok(site) => Ok(site),
         Err((fault, _)) => Err(fault),
-    }
-}
-
-// Reports that connections are waited for.
-fn write_listening<W: Write>(output: &mut W) -> Result<(), TaskFault>
-    ensures report { OnOk result
-        (Appends (W.contents output.old) (W.contents output.new) listening) }
-    ensures fault { IfErr result (λ fault. fault ≡ TaskFault.Write) }
-{
-    match writeln!(output, "listening") {
-        Ok(()) => Ok(()),
-        Err(_) => Err(TaskFault::Write),
     }
 }
 
@@ -112,7 +101,7 @@ fn listen<W: Write, C: Connections, K: Keep + Drop>(
         C.Output.Sink C.accepts C.ends (zone_of site.old) MOST) count
         (connections.old, keep_of site.old) (keep_of site.new)) }
 {
-    write_listening(output)?;
+    write_line(output, b"listening\n")?;
     serve_all(alloc, connections, count, site)
 }
 

@@ -3,13 +3,14 @@ ghost use Rattle.std.specs.Prelude.{◌≡◌, ◌≤◌, ◌⊎◌, true, IfErr
 ghost use Rattle.std.specs.Io.KnownBytes.{Appends};
 ghost use Rattle.auction_runs.specs.Audited.{IsUnread};
 ghost use Rattle.auction_runs.specs.Faults.{IsOfKeep};
-ghost use Rattle.auction_runs.specs.Printed.{not_covered_line, same_line};
+ghost use Rattle.auction_runs.specs.Printed.{same_line};
 ghost use Rattle.auction_runs.specs.Raised.{HasLooked, HasShown, HasTried, IsShown, IsUnshown, IsUntried};
 ghost use Rattle.site.specs.Answers.{zone_of};
 ghost use Rattle.site_serve.specs.Serving.{keep_of};
 
 use crate::audit::{both_begun, messages, status};
 use crate::fault::{Side, TaskFault};
+use crate::output::write_line;
 use device::{Sink, Source};
 use house_rows::Keep;
 use site::Site;
@@ -87,18 +88,6 @@ fn write_same<W: Write>(output: &mut W, count: usize) -> Result<(), TaskFault>
     }
 }
 
-// Reports that no covered bid is there.
-fn write_not_covered<W: Write>(output: &mut W) -> Result<(), TaskFault>
-    ensures report { OnOk result
-        (Appends (W.contents output.old) (W.contents output.new) not_covered_line) }
-    ensures fault { IfErr result (λ fault. fault ≡ TaskFault.Write) }
-{
-    match writeln!(output, "not covered") {
-        Ok(()) => Ok(()),
-        Err(_) => Err(TaskFault::Write),
-    }
-}
-
 /// Reports what was found, and gives whether the bid is covered.
 pub fn write_finding<W: Write>(output: &mut W, found: &Surplus) -> Result<bool, TaskFault>
     ensures report { IfOk result (IsShown (W.contents output.old) (W.contents output.new) found.now) }
@@ -110,7 +99,7 @@ pub fn write_finding<W: Write>(output: &mut W, found: &Surplus) -> Result<bool, 
             Ok(true)
         }
         Surplus::NotCovered => {
-            write_not_covered(output)?;
+            write_line(output, b"not covered\n")?;
             Ok(false)
         }
     }
