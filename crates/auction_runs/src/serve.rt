@@ -10,6 +10,7 @@ ghost use Rattle.settle.specs.Zoned.{IsZoneOf};
 ghost use Rattle.site.specs.Answers.{zone_of};
 ghost use Rattle.site_connections.specs.Turns.{Takes, TakesEach, TakesWell};
 ghost use Rattle.site_serve.specs.Serving.{keep_of};
+ghost use Rattle.steps.specs.Table.{IsBandTable};
 
 use crate::ended::outcome_after_end;
 use crate::fault::{TaskFault, finish_run};
@@ -29,6 +30,7 @@ pub fn begin_site<K: Keep + Drop>(alloc: Global, keep: K) -> Result<Site<K>, (Ta
     ensures keep { IfOk result (λ site. keep_of site ≡ keep) }
     ensures zone { K.is_honest keep → IfOk result (λ site.
         IsZoneOf (K.content keep).settings.zone (zone_of site)) }
+    ensures bands { K.is_honest keep → OnOk result (IsBandTable (K.content keep).settings.bands) }
     ensures fault { IfErr result (λ e. IsOfKeep e.0) }
     ensures back { IfErr result (λ e. e.1 ≡ keep) }
 {
@@ -43,6 +45,7 @@ pub fn site_over<K: Keep + Drop>(alloc: Global, keep: K) -> Result<Site<K>, Task
     ensures keep { IfOk result (λ site. keep_of site ≡ keep) }
     ensures zone { K.is_honest keep → IfOk result (λ site.
         IsZoneOf (K.content keep).settings.zone (zone_of site)) }
+    ensures bands { K.is_honest keep → OnOk result (IsBandTable (K.content keep).settings.bands) }
     ensures fault { IfErr result IsOfKeep }
 {
     match begin_site(alloc, keep) {
