@@ -185,6 +185,7 @@ rows:
 
 fuzz:
 	python3 tests/program/fuzz.py crates/auction/out/auction $(MESSAGES) $(SEED)
+	python3 tests/program/auction_mark.py crates/auction/out/auction
 	python3 tests/program/plain_pages.py
 
 mutated:

@@ -59,7 +59,10 @@ def shown(what, found, unit, digits=0):
     line = f"{what:28} {found['ours']:12,.{digits}f} {unit}"
     for whose, name in published.OTHERS.items():
         if whose in found:
-            line += f", {found[whose]:12,.{digits}f} by {name}, {published.times_ahead(found, unit)} times ahead"
+            ahead = published.times_ahead({"ours": found["ours"], whose: found[whose]}, unit)
+            line += f", {found[whose]:12,.{digits}f} by {name}, {ahead} times ahead"
+    if "least" in found:
+        line += f" ({found['least']:.2f} to {found['most']:.2f})"
     print(line, flush=True)
 
 

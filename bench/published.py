@@ -1,9 +1,9 @@
 """The figures that pages show, which `bench/figures.json` has.
 
-They are kept by run. A run has the script that measured it, the commit, the machine, and, where files were written, how many commits
-of a row a second Python's `sqlite3` made on the same disk. Its figures stand by part, each with what was measured, the unit, ours,
-and another's beside it. A page names the figure that it shows by a comment, `<!-- figure: RUN: WHAT, UNIT -->`, and
-`tests/documents/figures.py` compares the two.
+They are kept by run. A run has the script that measured it, the commit, the machine, and, where files were written, how many
+commits of a row a second Python's `sqlite3` made on the same disk. Its figures stand by part, each with what was measured, the
+unit, ours, and another's beside it; and, where each round gave its own, how many times ours was ahead at least and at most. A page
+names the figure that it shows by a comment, `<!-- figure: RUN: WHAT, UNIT -->`, and `tests/documents/figures.py` compares the two.
 """
 import json
 import os
@@ -14,7 +14,7 @@ import subprocess
 FILE = pathlib.Path(__file__).with_name("figures.json")
 TABLE = pathlib.Path(__file__).with_name("TABLE.md")
 # Whose figures stand beside ours.
-OTHERS = {"plain": "plain Rust", "kit": "the kit alone"}
+OTHERS = {"plain": "plain Rust", "kit": "the kit alone", "postgres": "PostgreSQL", "sqlite": "SQLite"}
 
 
 def commit():
@@ -56,7 +56,7 @@ def number(value):
 def times_ahead(found, unit):
     """How many times ours is ahead of the other, so that more than 1 is better whatever the unit; or nothing."""
     other = next((found[whose] for whose in OTHERS if whose in found), None)
-    if other is None:
+    if not other or not found["ours"]:
         return ""
     ratio = found["ours"] / other if "a second" in unit else other / found["ours"]
     return f"{ratio:.2f}" if ratio >= 0.1 else f"{ratio:.2g}"
@@ -70,7 +70,10 @@ def shown_by_name(runs):
             names[f"{run_name}: commits, a second"] = {"ours": number(run["commits"])}
         for found in sum(run["parts"].values(), []):
             columns = {whose: number(found[whose]) for whose in ("ours", *OTHERS) if whose in found}
-            names[f"{run_name}: {found['what']}, {found['unit']}"] = {**columns, "ahead": times_ahead(found, found["unit"])}
+            ahead = {"ahead": times_ahead(found, found["unit"])}
+            if "least" in found:
+                ahead["spread"] = f"{found['least']:.2f} to {found['most']:.2f}"
+            names[f"{run_name}: {found['what']}, {found['unit']}"] = {**columns, **ahead}
     return names
 
 

@@ -22,7 +22,8 @@ PAGES = [ROOT / "README.md", ROOT / "CHANGELOG.md", ROOT / "bench" / "README.md"
 SHOWING = ["README.md", "bench/README.md", "docs/RUNNING.md", "deploy/gateway/GROWTH.md"]
 COMMENT = re.compile(r"<!--\s+figure:\s+(.*?)\s+-->", re.S)
 NUMBER_BEFORE = re.compile(r"([0-9][0-9.,]*)\s*" + COMMENT.pattern, re.S)
-COLUMNS = {"Ours": "ours", "Ahead": "ahead", **{name[0].upper() + name[1:]: whose for whose, name in published.OTHERS.items()}}
+COLUMNS = {"Ours": "ours", "Ahead": "ahead", "From round to round": "spread",
+           **{name[0].upper() + name[1:]: whose for whose, name in published.OTHERS.items()}}
 
 def cells_of(line):
     return [cell.strip() for cell in COMMENT.sub("", line).strip().strip("|").split("|")]
