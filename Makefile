@@ -6,16 +6,17 @@ SUITES = editions:* surplus-with-reserves:*
 DESCRIBED = editions surplus-with-reserves
 
 # How many messages the fuzz sends at least, how many answers spoiled ones have to get, how many pairs of lists are audited
-# that are equal and that are apart, how often a server is killed, how many rows a lot file has, and the seed that chooses
-# them; that each EVERYth call on files stops, or has a power cut after it, and each EVERYth value is spoiled; the
-# crates whose wrong bodies make wrong and make reasons try, and in which make mutants and make plant put some, all where there
-# are none; how many mutants are drawn; and the bodies that make giving puts in, eight where there are none.
+# that are apart, and how many that differ in what is sealed alone, how often a server is killed, how many rows a lot file has, and
+# the seed that chooses them; that each EVERYth call on files stops, or has a power cut after it, and each EVERYth value is
+# spoiled; the crates whose wrong bodies make wrong and make reasons try, and in which make mutants and make plant put some, all
+# where there are none; how many mutants are drawn; and the bodies that make giving puts in, nine where there are none.
 MESSAGES ?= 5000
 MUTATED ?= 100000
 KILLS ?= 200
 EVERY ?= 1
 ROWS ?= 20000
 PAIRS ?= 1000
+SEALED ?= 10000
 SEED ?= 2026
 CRATES ?=
 COUNT ?= 100
@@ -79,7 +80,7 @@ help:
 	@echo "  make cases     on the conformance cases in CASES, which are played on the plain site too"
 	@echo "  make fuzz      on MESSAGES random messages, some over TCP, beside plain lists and in twin runs"
 	@echo "  make mutated   on streams of spoiled messages, until MUTATED are answered, and what was accepted plainly"
-	@echo "  make twins     audits PAIRS random pairs of lists that differ in what others sealed, and PAIRS that are apart,"
+	@echo "  make twins     audits SEALED random pairs of lists that differ in what others sealed, and PAIRS that are apart,"
 	@echo "                 raises a bid in PAIRS random lists, and plays PAIRS on houses that are killed and started again"
 	@echo "  make file      makes houses in files, opens, copies, damages and upgrades them, kills who serves, and reads them with"
 	@echo "                 sqlite3"
@@ -192,7 +193,7 @@ mutated:
 	python3 tests/program/mutated.py crates/auction/out/auction $(MUTATED) $(SEED)
 
 twins:
-	python3 tests/program/twins.py crates/auction/out/auction $(PAIRS) $(PAIRS) $(SEED)
+	python3 tests/program/twins.py crates/auction/out/auction $(SEALED) $(PAIRS) $(SEED)
 	python3 tests/program/raised.py crates/auction/out/auction $(PAIRS) $(SEED)
 	python3 tests/program/twin_lives.py crates/auction/out/auction $(PAIRS) $(SEED)
 

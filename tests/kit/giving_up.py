@@ -2,12 +2,13 @@
 """Puts in bodies that give up, and looks whether the tests find them: `giving_up.py [NAME..]`.
 
 A body that always tells want of memory, or that the store failed, is proved under any contract: memory may be refused at any
-call, and a contract shows no cause. So only tests find it. Each is put into a copy of the checkout and built without proofs, by
-`rt try`; then a section of the stored run of `test_site` or `test_store` has to come out otherwise, or tests/office/office.py has
-to fail on the program. With nothing put in they have to pass. NAMEs choose among the bodies, `all` takes all, none those that are
-MAIN. As many are built at once as there are processors, and memory for. It needs the kit, with its `rt` on the path. The last
-line is 'N bodies, M not found'. With `--texts` nothing is built: each text that a body takes the place of has to be in its file
-once.
+call, and a contract shows no cause. So is one that tells it by what somebody has sealed, and then a 503 shows that. So only tests
+find them. Each is put into a copy of the checkout and built without proofs, by `rt try`; then a section of the stored run of
+`test_site` or `test_store` has to come out otherwise, or tests/office/office.py has to fail on the program, or
+tests/program/twins.py, where a body goes by what is sealed. With nothing put in they have to pass. NAMEs choose among the bodies,
+`all` takes all, none those that are MAIN. As many are built at once as there are processors, and memory for. It needs the kit,
+with its `rt` on the path. The last line is 'N bodies, M not found'. With `--texts` nothing is built: each text that a body takes
+the place of has to be in its file once.
 
 Promise: none
 """
@@ -32,9 +33,9 @@ ENGINE, DECIDING, READING = "site/src/engine.rt", "house/src/decision.rt", "page
 KEEP, ACCOUNT, IMPORTS = "store/src/keep.rt", "office/src/account.rt", "office/src/imports.rt"
 REPLAY, SETUP = "auction_runs/src/replay.rt", "auction_runs/src/setup.rt"
 MEMORY, STORE, REPLAYED = "Err(KeepFault::Memory)", "Err(KeepFault::Store)", "Err(Fault::Memory)"
-# What finds a body: a section of the stored run of a crate's program, or a script that is given the house's program.
+# What finds a body: a section of the stored run of a crate's program, or a script that is given the house's program and words.
 STREAMS, SHOWN, RUNS = ("test_site", "streams"), ("test_site", "pages"), ("test_store", "runs")
-OFFICE = "office/office.py"
+OFFICE, TWINS = ("office/office.py",), ("program/twins.py", "1000", "0")
 
 
 @dataclasses.dataclass(frozen=True)
@@ -44,7 +45,7 @@ class Body:
     file: str
     old: str
     new: str
-    finder: str | tuple
+    finder: tuple
 
 
 RECORD = "append_record(self.alloc, &mut self.keep, &mut text)?;"
@@ -62,6 +63,16 @@ PAGES = {"house": "house(alloc, keep)", "bands": "bands(alloc, keep)", "categori
          "ratings": "feedback_to(keep, member, from)", "bids": "bids(keep, caller, from)",
          "reserves": "=> reserves(keep, caller, from)", "watches": "watches(alloc, keep, caller)", "questions": "=> questions(keep, caller, from)",
          "waiting": "waiting(keep, caller)", "account": "statement(keep, caller, from, to)"}
+
+
+# Whether something sealed is so, by its name: of item 1, and of what member 2 has bid, watches or asks there.
+SECRETS = {"reserve": "matches!(keep.reserve(1)?, Some(sealed) if sealed.value() > 100_000)",
+           "maximum": "keep.own_best(1, 2)?.maximum.value() > 100_000",
+           "watch": "keep.watched(2, 1)?",
+           "question": "match keep.question(1, 2, 1)? { "
+                       "Some(asked) => asked.answer.is_none() && asked.text.as_str().len() > 12, None => false }"}
+# Where every page is made, and where every command is decided on.
+PAGE, COMMAND = "read_tables(alloc, keep, caller, query)", "match command {"
 
 
 def with_arrow(call, new):
@@ -82,8 +93,13 @@ BODIES = [
     *(Body(f"command-{name}", DECIDING, call, with_arrow(call, MEMORY), RUNS if name == "unwatch" else SHOWN)
       for name, call in CALLS.items()),
     *(Body(f"page-{name}", READING, call, with_arrow(call, MEMORY), SHOWN) for name, call in PAGES.items()),
+    *(Body(f"pages-503-by-a-{name}", READING, PAGE, f"if {secret} {{ return {MEMORY}; }} {PAGE}", TWINS)
+      for name, secret in SECRETS.items()),
+    *(Body(f"commands-503-by-a-{name}", DECIDING, COMMAND, f"if {secret} {{ return {MEMORY}; }} {COMMAND}", TWINS)
+      for name, secret in SECRETS.items()),
 ]
-MAIN = ["everything-503", "everything-500", "command-bid", "page-items", "look-up", "record", "statement", "import"]
+MAIN = ["everything-503", "everything-500", "command-bid", "page-items", "look-up", "record", "statement", "import",
+        "pages-503-by-a-reserve"]
 
 
 def times_there(root, body):
@@ -112,14 +128,18 @@ def count_texts():
 
 def passes(copy, finder):
     """Whether a copy passes what finds a body, or None where it can't be built."""
-    if finder != OFFICE:
+    if not is_script(finder):
         crate = copy / "crates" / finder[0]
         script, transcript = (stored(crate / name, finder[1]) for name in ("stdin", "stdout"))
         ran = subprocess.run(["rt", "try"], cwd=crate, input=script, capture_output=True)
         return ran.stdout == transcript if is_run(ran.stderr) else None
     program = built(copy)
-    return program and subprocess.run([sys.executable, copy / "tests" / finder, program],
+    return program and subprocess.run([sys.executable, copy / "tests" / finder[0], program, *finder[1:]],
                                       capture_output=True).returncode == 0
+
+
+def is_script(finder):
+    return finder[0].endswith(".py")
 
 
 def stored(path, name):
@@ -195,10 +215,6 @@ def builds_at_once():
     return max(1, min(os.cpu_count(), free // BUILD))
 
 
-def finder_in_words(finder):
-    return finder if finder == OFFICE else " ".join(finder)
-
-
 def main():
     if sys.argv[1:] == ["--texts"]:
         return count_texts()
@@ -214,7 +230,7 @@ def main():
         is_right = passed is (not body.file)
         missed += not is_right
         end = {True: "passes", False: "is found", None: "can't be built"}[passed]
-        print(f"{body.name} {end} by {finder_in_words(body.finder)}, {seconds:.0f} s" + ("" if is_right else ": WRONG"), flush=True)
+        print(f"{body.name} {end} by {' '.join(body.finder)}, {seconds:.0f} s" + ("" if is_right else ": WRONG"), flush=True)
     print(f"{len(bodies)} bodies, {missed} not found")
     return 1 if missed else 0
 

@@ -3,8 +3,8 @@
 
 A judge that passes everything would have every other script pass. So each is given what it has to pass and what it has to find, as
 texts that are written here: the count of checks, well-formed answers, the two rules by which a stream is cut, sections of a
-transcript, the report of refused runs, and for what reason a wrong body is refused. The rules in Python have plain_cases.py. The
-last line is 'N checks, M wrong'.
+transcript, the report of refused runs, and for what reason a wrong body is refused. Twin lists have to find a site that answers 503
+by what somebody has sealed, within 1,000 pairs. The rules in Python have plain_cases.py. The last line is 'N checks, M wrong'.
 
 Promise: none
 """
@@ -14,9 +14,11 @@ import sys
 
 from lib.checks import Checks, check, claim, verdict
 from lib.frame import cut, request_of
+from lib.plain_site import Site
 from lib.refusal import report
-from lib.sent import Malformed, answers_in, gives_up, next_answer, replayed, value_of
+from lib.sent import Answer, Malformed, answers_in, gives_up, next_answer, replayed, value_of
 from lib.transcript import pairs, section
+from lib.twin_lists import SEED, Lists, Run, are_lists
 from lib.wrong_bodies import (CLAUSE, FALSE, GAVE_UP, LOST, MISFIT, NO_CODE, PANIC, PROOF, PROVED, Found, Function, both, class_of,
                               fitting, functions_of, lefts, owner, rows_of, without_answers)
 
@@ -93,6 +95,17 @@ returns c =
 pub returns-2 : goal.returns-2
 returns-2 c = z
 """
+
+OUT_OF_MEMORY = Answer(503, {"error": "memory"}, "", True)
+# In how many pairs of lists a site that tells what is sealed has to be found.
+MOST_PAIRS = 1000
+# Whether something sealed is so in a plain house: of its first item, and of what its second member has bid, watches or asks there.
+SECRETS = {
+    "reserve": lambda house: house.rows and (house.rows[0].reserve or 0) > 100_000,
+    "maximum": lambda house: max(house.maxima(1, 2), default=0) > 100_000,
+    "watch": lambda house: (2, 1) in house.watching,
+    "question": lambda house: any((asked.item, asked.asker, asked.answer) == (1, 2, None) for asked in house.asked),
+}
 
 
 def fails(call, *words):
@@ -180,12 +193,52 @@ def reasons():
           "use a.b.{c}\n\n-- the other\npub returns-2 : goal.returns-2\nreturns-2 c = z\n")
 
 
+class TellingSite(Lists):
+    """Twin lists that a site plays which answers what is read, or what is ordered, by 503 where something sealed is so."""
+
+    def __init__(self, is_so, method):
+        super().__init__("", "", SEED)
+        self.is_so, self.method = is_so, method
+
+    def answer_texts(self, settings, run):
+        site, texts = Site(**settings), []
+        for request in run.requests:
+            tells, answer = request.method == self.method and self.is_so(site.house), site.answer(request)
+            texts.append((OUT_OF_MEMORY if tells and answer.status in (200, 201) else answer).text())
+        return texts
+
+    def fail(self, what, expected, got):
+        self.wrong += 1
+
+    def is_found(self, most=MOST_PAIRS):
+        """Whether some answer is wrong in so many lists and twins of them."""
+        for _ in range(most):
+            settings, requests, member = self.first()
+            left = Run(settings, requests, member)
+            right, kinds = self.twin(settings, left, member)
+            if kinds and are_lists(left, right):
+                self.answers(settings, left, member)
+                self.answers(settings, right, member)
+            if self.wrong:
+                return True
+        return False
+
+
+def secrets():
+    """A 503 that goes by what somebody has sealed is found in twin lists, and a site that tells nothing passes."""
+    for name, is_so in SECRETS.items():
+        for method in ("GET", "POST"):
+            claim(f"503 to {method} by a {name} passes", TellingSite(is_so, method).is_found())
+    claim("a site that tells nothing is found", not TellingSite(lambda house: False, "GET").is_found(20))
+
+
 def main():
     counts()
     answers()
     streams()
     sections()
     reasons()
+    secrets()
     return verdict()
 
 

@@ -42,7 +42,12 @@ def any_maximum(chance, others):
 
 
 class Sealing(Chance):
-    """Random words, of which one maximum in four is from the whole range."""
+    """Random words, of which one maximum in four and one reserve in four are from the whole range."""
+
+    def reserve(self, start, buy_now):
+        sealed = super().reserve(start, buy_now)
+        is_any = sealed and buy_now is None and start < MOST_CENTS and self.rarely(25)
+        return [self.random.randint(start + 1, MOST_CENTS)] if is_any else sealed
 
     def bid(self):
         caller, number, maximum = super().bid()

@@ -95,7 +95,8 @@ class Lists:
         """A run that is a twin of another for a member, and what was changed in it: nothing where none is found."""
         parts, requests = self.random.choice(SEALED), left.requests
         changes = [(at, request) for at, request in sealed_changes(left, self.random)
-                   if requests[at].target.split("/")[-1] in parts and caller(request) != member]
+                   if requests[at].target.split("/")[-1] in parts and caller(request) != member
+                   and (request.target, request.body) != (requests[at].target, requests[at].body)]
         right, kinds = left, []
         for at, request in changes[:TRIED]:
             tried = Run(settings, [*right.requests[:at], request, *right.requests[at + 1:]], member, left)
@@ -115,10 +116,14 @@ class Lists:
         table.write_text("at,step\n" + "".join(f"{at},{step}\n" for at, step in settings["bands"]))
         return [*words, "--bands", str(table)]
 
+    def answer_texts(self, settings, run):
+        """What a replay answers to a list."""
+        stream = b"".join(request.text() for request in run.requests)
+        return answers_in(replayed(self.program, stream, *self.words(settings)))[0]
+
     def answers(self, settings, run, member):
         """What a replay answers to a member in a list, of which each answer has to be the plain site's."""
-        stream = b"".join(request.text() for request in run.requests)
-        texts, _ = answers_in(replayed(self.program, stream, *self.words(settings)))
+        texts = self.answer_texts(settings, run)
         for request, text, answer in zip(run.requests, texts, run.answers):
             if text != answer.text():
                 self.fail(request.text(), answer.text(), text)

@@ -3,10 +3,11 @@
 
 EQUAL pairs, 1,000 without it, differ in what others than the member have sealed, maxima, reserves, watches and questions that
 wait, and agree in what is public and in what waits for the member: `audit` has to print `equal, N replies`, and two replays have
-to give the member N replies which are the same, byte for byte, in answers which are those of the plain site, so that none is 503
-or 500. APART pairs, 1,000 too, differ at some step for the member: `audit` has to print `apart at step K`, the first at which the
-plain site of tests/lib/plain_site.py finds the lists of another length, a message of the member's another, or the record or what
-waits for it another. A file with a broken frame is no list. The last line is 'N equal, M apart, K wrong'.
+to give the member N replies which are the same, byte for byte, in answers which are those of the plain site, so that with ample
+memory none is 503 or 500, whoever asks. Of 1,000 such pairs each command has to be accepted, and each page shown, after what was
+sealed otherwise, in some. APART pairs, 1,000 too, differ at some step for the member: `audit` has to print `apart at step K`, the
+first at which the plain site of tests/lib/plain_site.py finds the lists of another length, a message of the member's another, or
+the record or what waits for it another. A file with a broken frame is no list. The last line is 'N equal, M apart, K wrong'.
 
 Promise: isolation
 """
@@ -15,9 +16,13 @@ import dataclasses
 import sys
 import tempfile
 
+from lib.plain_site import COMMANDS, READS
 from lib.random_messages import sealed_changes
 from lib.sent import command, compact, read
 from lib.twin_lists import SEED, Lists, Run, apart, are_lists, caller
+
+# Of how many pairs each command and each page has to be answered in some.
+EACH = 1000
 
 
 class Pairs(Lists):
@@ -28,6 +33,8 @@ class Pairs(Lists):
         self.equal = self.apart = self.replies = 0
         # What was changed in lists that are equal, and at which part of the shorter list others are apart.
         self.kinds, self.parts = collections.Counter(), collections.Counter()
+        # What was answered after it, by the name of the command or the page.
+        self.after = collections.Counter(dict.fromkeys([*COMMANDS, *READS], 0))
 
     # Lists that are twins.
 
@@ -40,6 +47,7 @@ class Pairs(Lists):
             return
         self.equal += 1
         self.kinds.update(kinds)
+        self.after.update(names_after(left, right))
         count = sum(caller(request) == member for request in requests)
         self.replies += count
         self.judge(settings, left, right, member, (0, b"equal, %d replies\n" % count, b""))
@@ -144,6 +152,13 @@ class Pairs(Lists):
                 self.fail(f"audit of {left[:200]} and {right[:200]}", expected, got)
 
 
+def names_after(left, right):
+    """The commands and pages that are answered in both runs, after the first message that differs."""
+    first = next(at for at, (one, other) in enumerate(zip(left.requests, right.requests)) if one != other)
+    return [left.site.route(request)[0] for request, *answers in list(zip(left.requests, left.answers, right.answers))[first + 1:]
+            if all(answer.status in (200, 201) for answer in answers)]
+
+
 def main():
     equal, apart_count, seed = (int(word) for word in [*sys.argv[2:], *("1000", "1000", str(SEED))[len(sys.argv) - 2:]])
     with tempfile.TemporaryDirectory() as folder:
@@ -155,6 +170,10 @@ def main():
             pairs.apart_pair()
     print("others sealed otherwise:", ", ".join(f"{kind} {count}" for kind, count in sorted(pairs.kinds.items())),
           f"with {pairs.replies} replies")
+    rarest = min(pairs.after, key=pairs.after.get)
+    print(f"answered after that: each of {len(pairs.after)} commands and pages at least {pairs.after[rarest]} times ({rarest})")
+    if equal >= EACH and not pairs.after[rarest]:
+        pairs.fail(rarest, "an answer after what was sealed otherwise", "none")
     print("apart in the quarters of the list:", ", ".join(f"{pairs.parts[part]}" for part in range(4)))
     print(f"{pairs.equal} equal, {pairs.apart} apart, {pairs.wrong} wrong")
     return 1 if pairs.wrong else 0
