@@ -5,9 +5,9 @@ A seed draws lines of the bodies of all crates but those of tests and benches, o
 another, and one of the edits that fit it: a comparison turned, one more or less, a call left out, arguments swapped, a branch taken
 twice, another constant, a return before the line, `||` for `&&`, a `!` dropped. Each is checked as reasons.py checks an edit, with
 the same classes and the same folder of what is kept; one that doesn't compile is drawn again. Those that are refused only because
-answers of the proof no longer fit count apart: they say nothing of the contract. One that is PROVED is printed, for a person to
-judge: it means the same as before, or a clause is missing. It needs the kit, with its `rt` on the path. The last line is
-'N mutants, M proved'.
+answers of the proof no longer fit count apart: they say nothing of the contract. One that is PROVED is printed, with the reason
+that proved.tsv gives for it, or as a line of that file with none: it means the same as before, or a clause is missing. It needs
+the kit, with its `rt` on the path. The last line is 'N mutants, M proved, K of them with no reason'.
 
 Promise: none
 """
@@ -20,6 +20,7 @@ import sys
 
 from lib.crates import dependencies
 from lib.places import ROOT
+from lib.proved_bodies import reasons_given
 from lib.wrong_bodies import CLASSES, CRATES, NO_CODE, PROVED, REFUSED, Body, found, functions_of, key, table, try_bodies
 
 LEFT_OUT = re.compile(r"test_|bench_")
@@ -207,11 +208,22 @@ def difference(body):
             yield f"    {line}"
 
 
+def row_of(body):
+    """The crate, the function and the change of a body, as proved.tsv has them."""
+    (file, first, end, new), *_ = body.spans()
+    old = (CRATES / body.crate / file).read_text().split("\n")[first:end]
+    change = " => ".join(" ".join(" ".join(lines).split()) or "nothing" for lines in (old, new))
+    return body.crate, f"{file} {body.functions[0].name}", change
+
+
 def line(body):
     one = found(body)
     shape = ", by its answers alone" if one.kind in REFUSED and one.by_shape() else ""
     shown = f"{body.crate}/{body.name}: {one.kind}{shape}{f' ({one.told()})' if one.told() else ''}"
-    return "\n".join([shown, *difference(body)]) if one.kind == PROVED else shown
+    if one.kind != PROVED:
+        return shown
+    reason = reasons_given().get(row_of(body))
+    return "\n".join([shown, *difference(body), f"    {reason}" if reason else "no reason: " + "\t".join(row_of(body))])
 
 
 def main():
@@ -244,8 +256,9 @@ def main():
     print()
     print("\n".join(table([["came to", "mutants", "by its answers alone"],
                            *([name, str(counts[name] or "-"), str(shaped[name] or "-")] for name in CLASSES if name != NO_CODE)])))
-    print(f"{len(results)} mutants, {counts[PROVED]} proved")
-    return 0
+    open_ones = [body for body in bodies if found(body) and found(body).kind == PROVED and row_of(body) not in reasons_given()]
+    print(f"{len(results)} mutants, {counts[PROVED]} proved, {len(open_ones)} of them with no reason")
+    return 1 if open_ones else 0
 
 
 if __name__ == "__main__":

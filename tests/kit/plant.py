@@ -6,8 +6,8 @@ the result or a field. It runs here over each of named crates, or of all but tho
 as it takes. What it found is kept in out/planted by a sum of the crate's text, so that a run begins with the first crate that has
 nothing kept. A crate is run anew if a run was broken off inside it, or if one of its checks ran out of time: rt gives each four
 minutes, which may be too few on a busy machine. With --kept nothing is run. The page has a table of the crates of which something
-is kept, and each body that was proved, for a person to judge. It needs the kit, with its `rt` on the path. The last line is
-'N crates, M bodies proved'.
+is kept, and each body that was proved, with the reason that proved.tsv gives for it. It needs the kit, with its `rt` on the path.
+The last line is 'N crates, M bodies proved, K of them with no reason'.
 
 Promise: none
 """
@@ -18,6 +18,7 @@ import sys
 
 from lib.crates import dependencies
 from lib.places import ROOT
+from lib.proved_bodies import reasons_given
 from lib.wrong_bodies import CRATES, copied, kit, sum_of
 
 KEPT, PAGE = ROOT / "out" / "planted", ROOT / "docs" / "PLANTED.md"
@@ -89,28 +90,34 @@ def why_not(rows):
 
 
 def row(crate, said):
-    """The line of a crate in the table, and how many bodies were proved."""
+    """The line of a crate in the table."""
     rows, functions = list(rows_of(said)), LAST.search(said)[2]
     kinds = collections.Counter(kind for kind, *_ in rows)
     unjudged = kinds["elsewhere"] + kinds["not-judged"]
     # A call of the function as it is, which is not proved, is no wrong body.
     tried = kinds["refused"] + kinds["proves"] + kinds["same"] + unjudged - sum(why.startswith(UNCHANGED) for *_, why in rows)
     counts = [functions, tried, kinds["refused"], kinds["proves"], kinds["same"], unjudged]
-    return f"| {crate} | {' | '.join(map(str, counts))} | {why_not(rows)} |", kinds["proves"]
+    return f"| {crate} | {' | '.join(map(str, counts))} | {why_not(rows)} |"
 
 
 def cell(text):
     return f"`{text}`".replace("|", "\\|") if text else "nothing"
 
 
+def proved_in(found):
+    """The bodies that were proved: the crate, the function and the body."""
+    return [(crate, function, text) for crate, said in found.items()
+            for kind, function, text, _ in rows_of(said) if kind == "proves"]
+
+
 def page(found):
     """The page of what was said of each crate."""
-    lines = [HEAD.format(kit=kit().strip().split("\n")[0]) + "\n".join(row(crate, said)[0] for crate, said in found.items())]
-    proved = [(crate, function, text) for crate, said in found.items()
-              for kind, function, text, _ in rows_of(said) if kind == "proves"]
+    lines = [HEAD.format(kit=kit().strip().split("\n")[0]) + "\n".join(row(crate, said) for crate, said in found.items())]
+    reasons, proved = reasons_given(), proved_in(found)
     if proved:
-        lines.append("\n## Proved\n\n| Crate | Function | Body |\n|---|---|---|")
-        lines += [f"| {crate} | {cell(function)} | {cell(text)} |" for crate, function, text in proved]
+        lines.append("\n## Proved\n\n| Crate | Function | Body | Why no clause refuses it |\n|---|---|---|---|")
+        lines += [f"| {crate} | {cell(function)} | {cell(text)} | {reasons.get((crate, function, text), '')} |"
+                  for crate, function, text in proved]
     return "\n".join(lines) + "\n"
 
 
@@ -124,12 +131,16 @@ def main():
         said = planted(crate) if names == sys.argv[1:] else None
         lacking += names == sys.argv[1:] and said is None
         if said:
-            print(row(crate, said)[0], flush=True)
+            print(row(crate, said), flush=True)
     found = {crate: place(crate).read_text() for crate in dependencies(ROOT) if place(crate).exists()}
     if found:
         PAGE.write_text(page(found))
-    print(f"{len(found)} crates, {sum(row(crate, said)[1] for crate, said in found.items())} bodies proved")
-    return 1 if lacking else 0
+    proved, reasons = proved_in(found), reasons_given()
+    open_ones = [body for body in proved if body not in reasons]
+    for body in open_ones:
+        print("no reason:", "\t".join(body))
+    print(f"{len(found)} crates, {len(proved)} bodies proved, {len(open_ones)} of them with no reason")
+    return 1 if lacking or open_ones else 0
 
 
 if __name__ == "__main__":
