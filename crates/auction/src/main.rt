@@ -25,6 +25,7 @@ mod replay;
 mod service;
 mod stores;
 mod stream;
+mod surplus;
 mod upkeep;
 
 use std::process::ExitCode;

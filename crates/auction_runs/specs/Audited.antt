@@ -2,14 +2,13 @@
 use Rattle.std.specs.Prelude.{◌≡◌, ◌≢◌, ◌⊎◌, ℕ, List, [], length, Bool, true, false, Option, IfSome, Result, Ok, Err}
 use Rattle.std.specs.List.{AllZip}
 use Rattle.std.specs.Io.KnownBytes.{Appends}
-use Rattle.house_laws.specs.Alike.{AreAlike}
 use Rattle.house_rows.specs.declared.settings.Settings.{Settings}
 use Rattle.house_rows.specs.History.{History}
 use Rattle.house_rows.specs.Tables.{Tables, tables_of}
 use Rattle.house_rows.specs.Verdict.{IsHistory}
 use Rattle.settle.specs.Zoned.{IsZoneOf}
 use Rattle.settle.specs.declared.zone.Zone.{Zone}
-use Rattle.site_audit.specs.AuditsFrom.{IsFoundFrom}
+use Rattle.site_audit.specs.Audits.{IsVerdict}
 use Rattle.site_audit.specs.Messages.{IsCutInto}
 use Rattle.site_audit.specs.Places.{Heard, IsHeard}
 use Rattle.site_audit.specs.declared.verdict.Verdict.{Verdict}
@@ -59,20 +58,30 @@ abbrev pub IsUncompared : {K L R : Type 0} → (L → Option (List ℕ)) → (R 
 IsUncompared left_bytes right_bytes left right fault =
     IsOfKeep fault ⊎ AreUnread left_bytes right_bytes left.source right.source fault
 
--- what an audit of two lists says, by a zone, over two keeps that have the tables of histories which
--- are alike for the caller. Two keeps of equal tables have one history, and that of a new house is
--- empty
+-- what an audit of two lists says, over two keeps and by a zone
 abbrev pub Finds : {K : Type 0} → (K → Tables) → (K → Bool) → (K → Type 0) → ℕ → Zone
     → List (List ℕ) → List (List ℕ) → K → K → K → K → Verdict → Type 0
 Finds content is_failed is_honest c zone lefts rights left right left_new right_new verdict =
     is_honest left_new → is_honest right_new
-    → (settings : Settings) (h k : History)
-    → IsHistory settings h → IsHistory settings k → AreAlike settings c h k
-    → content left ≡ tables_of settings h → content right ≡ tables_of settings k
+    → (settings others : Settings) (h k : History)
+    → IsHistory settings h → IsHistory others k
+    → content left ≡ tables_of settings h → content right ≡ tables_of others k
     → (left_heard right_heard : List Heard)
     → AllZip IsHeard lefts left_heard → AllZip IsHeard rights right_heard
-    → IsFoundFrom content is_failed settings zone c h k left_heard right_heard left_new right_new
-    (Ok verdict)
+    → IsVerdict content is_failed settings zone c left_heard right_heard
+    left right left_new right_new (Ok verdict)
+
+-- the messages of two sources were compared over two keeps, and this was found
+pub record HasFound {K L R : Type 0} (content : K → Tables) (is_failed : K → Bool)
+    (is_honest : K → Type 0) (left_bytes : L → Option (List ℕ)) (right_bytes : R → Option (List ℕ))
+    (c : ℕ) (zone : Zone) (left_source : Result L TaskFault) (right_source : Result R TaskFault)
+    (left right left_new right_new : K) (verdict : Verdict) : Type 0 where
+  pub lefts : List (List ℕ)
+  pub rights : List (List ℕ)
+  pub left_messages : HasMessages left_bytes left_source lefts
+  pub right_messages : HasMessages right_bytes right_source rights
+  pub found : Finds content is_failed is_honest c zone lefts rights left right left_new right_new
+      verdict
 
 -- the messages of two runs were compared over their houses, and this was found
 pub record HasAudited {K L R : Type 0} (content : K → Tables) (is_failed : K → Bool)

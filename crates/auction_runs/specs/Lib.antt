@@ -1,4 +1,5 @@
 pub mod Audited
+pub mod AuditedFrom
 pub mod Faults
 pub mod Inquired
 pub mod Lines
@@ -6,6 +7,7 @@ pub mod Listed
 pub mod Over
 pub mod Printed
 pub mod Raised
+pub mod RaisedFrom
 pub mod Replayed
 pub mod Runs
 pub mod Served

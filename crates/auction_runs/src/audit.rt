@@ -1,24 +1,23 @@
 //! `audit`: two runs of messages, compared as one member sees them.
-ghost use Rattle.std.specs.Prelude.{◌≡◌, ◌≤◌, ◌↔◌, true, Ok, IfErr, IfOk, OnOk, map};
+ghost use Rattle.std.specs.Prelude.{◌≡◌, ◌≤◌, ◌⊎◌, ◌↔◌, true, Ok, IfErr, IfOk, OnOk, map};
 ghost use Rattle.std.specs.Io.KnownBytes.{Appends};
-ghost use Rattle.auction_runs.specs.Audited.{HasAudited, HasMessages, HasReported, IsReported, IsUncompared, IsUnread, IsUnreported};
+ghost use Rattle.auction_runs.specs.Audited.{AreUnread, HasAudited, HasFound, HasMessages, HasReported, IsReported, IsUncompared, IsUnread, IsUnreported};
 ghost use Rattle.auction_runs.specs.Faults.{IsOfKeep, fault_of_messages};
 ghost use Rattle.auction_runs.specs.Printed.{apart_line, equal_line};
 ghost use Rattle.settle.specs.Zoned.{IsZoneOf};
 ghost use Rattle.site.specs.Answers.{zone_of};
 ghost use Rattle.site_serve.specs.Serving.{keep_of};
-ghost use Rattle.steps.specs.Table.{IsBandTable};
 
 use crate::fault::{Side, TaskFault, finish_run};
 use crate::serve::site_over;
 use device::{Sink, Source};
 use house_rows::Keep;
 use site::Site;
-use site_audit::{MessagesFault, Verdict, audit_from, read_messages};
+use site_audit::{MessagesFault, Verdict, audit, read_messages};
 use std::alloc::Global;
 use std::io::Write;
 
-/// One side of an audit: a house, and where its messages come from, or why they can't be read.
+/// One side of an audit: a new house, and where its messages come from, or why they can't be read.
 #[derive(Drop)]
 pub struct Run<K: Drop, S: Drop> {
     /// The keep of the house.
@@ -64,7 +63,6 @@ pub fn both_begun<K: Keep + Drop>(
     ensures right { IfOk result (λ sites. keep_of sites.1 ≡ right) }
     ensures zone { K.is_honest left → IfOk result (λ sites.
         IsZoneOf (K.content left).settings.zone (zone_of sites.0)) }
-    ensures bands { K.is_honest left → OnOk result (IsBandTable (K.content left).settings.bands) }
     ensures fault { IfErr result IsOfKeep }
 {
     let left_site = site_over(alloc, left)?;
@@ -74,8 +72,28 @@ pub fn both_begun<K: Keep + Drop>(
     }
 }
 
-// What an audit of two runs finds. What is wrong on the left is reported before what is wrong on
-// the right.
+// What an audit of the messages of two sources finds, over two sites. What is wrong on the left is
+// reported before what is wrong on the right.
+fn compare_over<L: Source + Drop, R: Source + Drop, K: Keep + Drop>(
+    alloc: Global,
+    left: &mut Site<K>,
+    right: &mut Site<K>,
+    left_source: Result<L, TaskFault>,
+    right_source: Result<R, TaskFault>,
+    caller: u64,
+) -> Result<Verdict, TaskFault>
+    ensures found { IfOk result (HasFound K.content K.is_failed K.is_honest L.left R.left caller
+        (zone_of left.old) left_source right_source
+        (keep_of left.old) (keep_of right.old) (keep_of left.new) (keep_of right.new)) }
+    ensures fault { IfErr result (λ fault. IsOfKeep fault
+        ⊎ AreUnread L.left R.left left_source right_source fault) }
+{
+    let lefts = messages(alloc, left_source, Side::Left)?;
+    let rights = messages(alloc, right_source, Side::Right)?;
+    Ok(audit(alloc, left, right, &lefts, &rights, caller)?)
+}
+
+// What an audit of two runs finds.
 fn compare<L: Source + Drop, R: Source + Drop, K: Keep + Drop>(
     alloc: Global,
     left: Run<K, L>,
@@ -87,16 +105,14 @@ fn compare<L: Source + Drop, R: Source + Drop, K: Keep + Drop>(
     ensures fault { IfErr result (IsUncompared L.left R.left left right) }
 {
     let (mut left_site, mut right_site) = both_begun(alloc, left.keep, right.keep)?;
-    let lefts = messages(alloc, left.source, Side::Left)?;
-    let rights = messages(alloc, right.source, Side::Right)?;
-    Ok(audit_from(
+    compare_over(
         alloc,
         &mut left_site,
         &mut right_site,
-        &lefts,
-        &rights,
+        left.source,
+        right.source,
         caller,
-    )?)
+    )
 }
 
 // Reports that the runs are equal, with so many replies.
@@ -123,8 +139,8 @@ fn write_apart<W: Write>(output: &mut W, step: u64) -> Result<(), TaskFault>
     }
 }
 
-// Reports a verdict, and gives whether the runs are equal.
-fn write_verdict<W: Write>(output: &mut W, verdict: &Verdict) -> Result<bool, TaskFault>
+/// Reports a verdict, and gives whether the runs are equal.
+pub fn write_verdict<W: Write>(output: &mut W, verdict: &Verdict) -> Result<bool, TaskFault>
     ensures report { IfOk result
         (IsReported (W.contents output.old) (W.contents output.new) verdict.now) }
     ensures fault { IfErr result (λ fault. fault ≡ TaskFault.Write) }
@@ -141,8 +157,9 @@ fn write_verdict<W: Write>(output: &mut W, verdict: &Verdict) -> Result<bool, Ta
     }
 }
 
-/// Compares two runs of messages as a member sees them, and reports what was found. Ok is whether
-/// they are equal. What is wrong on the left is reported before what is wrong on the right.
+/// Compares two runs of messages over new houses as a member sees them, and reports what was found.
+/// Ok is whether they are equal. What is wrong on the left is reported before what is wrong on the
+/// right.
 pub fn report_comparison<L: Source + Drop, R: Source + Drop, W: Write, K: Keep + Drop>(
     alloc: Global,
     left: Run<K, L>,
@@ -172,12 +189,9 @@ pub fn status<E: Sink>(errors: &mut E, equal: Result<bool, TaskFault>) -> u8
     }
 }
 
-/// Compares two runs of messages as a member sees them, reports what was found, and gives the exit
-/// status: 0 where they are equal, and else 1. What is wrong on the left is reported before what is
-/// wrong on the right. A fault is written in its line on `errors`.
-///
-/// The houses may have any two histories that are alike for the member, as two of equal tables
-/// have: two new ones that were set up alike both have the empty history.
+/// Compares two runs of messages over new houses as a member sees them, reports what was found, and
+/// gives the exit status: 0 where they are equal, and else 1. What is wrong on the left is reported
+/// before what is wrong on the right. A fault is written in its line on `errors`.
 pub fn audit_run<L: Source + Drop, R: Source + Drop, W: Write, E: Sink, K: Keep + Drop>(
     alloc: Global,
     left: Run<K, L>,

@@ -7,10 +7,20 @@ ghost use Rattle.auction_runs.specs.Over.{IsOver};
 ghost use Rattle.auction_runs.specs.Printed.{created};
 
 use crate::fault::{TaskFault, finish_run};
-use crate::output::write_line;
 use device::Sink;
 use house_rows::{Ends, KeepFault};
 use std::io::Write;
+
+// Reports that a house is made.
+fn write_created<W: Write>(output: &mut W) -> Result<(), TaskFault>
+    ensures report { OnOk result (Appends (W.contents output.old) (W.contents output.new) created) }
+    ensures fault { IfErr result (λ fault. fault ≡ TaskFault.Write) }
+{
+    match writeln!(output, "created") {
+        Ok(()) => Ok(()),
+        Err(_) => Err(TaskFault::Write),
+    }
+}
 
 // Reports that the house is made, where its keep was ended.
 fn finish<W: Write>(output: &mut W, ended: Result<(), KeepFault>) -> Result<(), TaskFault>
@@ -19,7 +29,7 @@ fn finish<W: Write>(output: &mut W, ended: Result<(), KeepFault>) -> Result<(), 
     ensures fault { IfErr result (IsOfEnded ended) }
 {
     ended?;
-    write_line(output, b"created\n")
+    write_created(output)
 }
 
 /// Ends the keep of a new house, reports that it is made, and gives the exit status and what is left

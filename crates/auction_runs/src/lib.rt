@@ -9,21 +9,23 @@
 #![tactic(auto)]
 
 mod audit;
+mod audit_from;
 mod bands;
 mod ended;
 mod fault;
 mod import;
 mod init;
 mod line;
-mod output;
 mod replay;
 mod serve;
 mod setup;
 mod statement;
 mod surplus;
+mod surplus_from;
 mod upgrade;
 
 pub use audit::{Run, audit_run};
+pub use audit_from::audit_from_run;
 pub use bands::bands_run;
 pub use fault::{Side, TaskFault, finish_run};
 pub use import::import_run;
@@ -32,4 +34,5 @@ pub use replay::replay_run;
 pub use serve::{MOST, answer_each, begin_site, serve_run};
 pub use statement::{Inquiry, statement_run};
 pub use surplus::{Raise, Trial, surplus_run};
+pub use surplus_from::surplus_from_run;
 pub use upgrade::upgrade_run;

@@ -10,11 +10,9 @@ ghost use Rattle.settle.specs.Zoned.{IsZoneOf};
 ghost use Rattle.site.specs.Answers.{zone_of};
 ghost use Rattle.site_connections.specs.Turns.{Takes, TakesEach, TakesWell};
 ghost use Rattle.site_serve.specs.Serving.{keep_of};
-ghost use Rattle.steps.specs.Table.{IsBandTable};
 
 use crate::ended::outcome_after_end;
 use crate::fault::{TaskFault, finish_run};
-use crate::output::write_line;
 use device::Sink;
 use house_rows::{Ends, Keep, KeepFault};
 use site::Site;
@@ -30,7 +28,6 @@ pub fn begin_site<K: Keep + Drop>(alloc: Global, keep: K) -> Result<Site<K>, (Ta
     ensures keep { IfOk result (λ site. keep_of site ≡ keep) }
     ensures zone { K.is_honest keep → IfOk result (λ site.
         IsZoneOf (K.content keep).settings.zone (zone_of site)) }
-    ensures bands { K.is_honest keep → OnOk result (IsBandTable (K.content keep).settings.bands) }
     ensures fault { IfErr result (λ e. IsOfKeep e.0) }
     ensures back { IfErr result (λ e. e.1 ≡ keep) }
 {
@@ -45,12 +42,23 @@ pub fn site_over<K: Keep + Drop>(alloc: Global, keep: K) -> Result<Site<K>, Task
     ensures keep { IfOk result (λ site. keep_of site ≡ keep) }
     ensures zone { K.is_honest keep → IfOk result (λ site.
         IsZoneOf (K.content keep).settings.zone (zone_of site)) }
-    ensures bands { K.is_honest keep → OnOk result (IsBandTable (K.content keep).settings.bands) }
     ensures fault { IfErr result IsOfKeep }
 {
     match begin_site(alloc, keep) {
         Ok(site) => Ok(site),
         Err((fault, _)) => Err(fault),
+    }
+}
+
+// Reports that connections are waited for.
+fn write_listening<W: Write>(output: &mut W) -> Result<(), TaskFault>
+    ensures report { OnOk result
+        (Appends (W.contents output.old) (W.contents output.new) listening) }
+    ensures fault { IfErr result (λ fault. fault ≡ TaskFault.Write) }
+{
+    match writeln!(output, "listening") {
+        Ok(()) => Ok(()),
+        Err(_) => Err(TaskFault::Write),
     }
 }
 
@@ -104,7 +112,7 @@ fn listen<W: Write, C: Connections, K: Keep + Drop>(
         C.Output.Sink C.accepts C.ends (zone_of site.old) MOST) count
         (connections.old, keep_of site.old) (keep_of site.new)) }
 {
-    write_line(output, b"listening\n")?;
+    write_listening(output)?;
     serve_all(alloc, connections, count, site)
 }
 

@@ -1,15 +1,19 @@
 //! `surplus`: whether it shows to another member how much higher a covered bid is sealed.
-ghost use Rattle.std.specs.Prelude.{◌≡◌, ◌≤◌, true, IfErr, IfOk, OnOk};
+ghost use Rattle.std.specs.Prelude.{◌≡◌, ◌≤◌, ◌⊎◌, true, IfErr, IfOk, OnOk};
 ghost use Rattle.std.specs.Io.KnownBytes.{Appends};
-ghost use Rattle.auction_runs.specs.Printed.{same_line};
-ghost use Rattle.auction_runs.specs.Raised.{HasShown, HasTried, IsShown, IsUnshown, IsUntried};
+ghost use Rattle.auction_runs.specs.Audited.{IsUnread};
+ghost use Rattle.auction_runs.specs.Faults.{IsOfKeep};
+ghost use Rattle.auction_runs.specs.Printed.{not_covered_line, same_line};
+ghost use Rattle.auction_runs.specs.Raised.{HasLooked, HasShown, HasTried, IsShown, IsUnshown, IsUntried};
+ghost use Rattle.site.specs.Answers.{zone_of};
+ghost use Rattle.site_serve.specs.Serving.{keep_of};
 
 use crate::audit::{both_begun, messages, status};
 use crate::fault::{Side, TaskFault};
-use crate::output::write_line;
 use device::{Sink, Source};
 use house_rows::Keep;
-use site_audit::{Surplus, surplus_from};
+use site::Site;
+use site_audit::{Surplus, surplus};
 use std::alloc::Global;
 use std::io::Write;
 
@@ -24,7 +28,7 @@ pub struct Raise {
     pub other: u64,
 }
 
-/// Two houses of equal tables, and where the messages come from, or why they can't be read.
+/// Two new houses, and where the messages come from, or why they can't be read.
 #[derive(Drop)]
 pub struct Trial<K: Drop, S: Drop> {
     /// The keep of the house over which the messages are answered.
@@ -33,6 +37,28 @@ pub struct Trial<K: Drop, S: Drop> {
     pub right: K,
     /// The source of the messages.
     pub source: Result<S, TaskFault>,
+}
+
+// What is found of the messages of a source, over two sites.
+fn look_over<S: Source + Drop, K: Keep + Drop>(
+    alloc: Global,
+    left: &mut Site<K>,
+    right: &mut Site<K>,
+    source: Result<S, TaskFault>,
+    raise: Raise,
+) -> Result<Surplus, TaskFault>
+    ensures found { IfOk result (HasLooked K.content K.is_failed K.is_honest S.left raise
+        (zone_of left.old) source
+        (keep_of left.old) (keep_of right.old) (keep_of left.new) (keep_of right.new)) }
+    ensures fault { IfErr result (λ fault. IsOfKeep fault ⊎ IsUnread S.left Side.Only source fault) }
+{
+    let texts = messages(alloc, source, Side::Only)?;
+    let Raise {
+        place,
+        maximum,
+        other,
+    } = raise;
+    Ok(surplus(alloc, left, right, &texts, place, maximum, other)?)
 }
 
 // What is found over the houses of a trial.
@@ -46,13 +72,7 @@ fn look<S: Source + Drop, K: Keep + Drop>(
     ensures fault { IfErr result (IsUntried S.left trial) }
 {
     let (mut left, mut right) = both_begun(alloc, trial.left, trial.right)?;
-    let texts = messages(alloc, trial.source, Side::Only)?;
-    let Raise {
-        place,
-        maximum,
-        other,
-    } = raise;
-    Ok(surplus_from(alloc, &mut left, &mut right, &texts, place, maximum, other)?)
+    look_over(alloc, &mut left, &mut right, trial.source, raise)
 }
 
 // Reports that a bid is covered, with so many replies to who looks.
@@ -67,8 +87,20 @@ fn write_same<W: Write>(output: &mut W, count: usize) -> Result<(), TaskFault>
     }
 }
 
-// Reports what was found, and gives whether the bid is covered.
-fn write_finding<W: Write>(output: &mut W, found: &Surplus) -> Result<bool, TaskFault>
+// Reports that no covered bid is there.
+fn write_not_covered<W: Write>(output: &mut W) -> Result<(), TaskFault>
+    ensures report { OnOk result
+        (Appends (W.contents output.old) (W.contents output.new) not_covered_line) }
+    ensures fault { IfErr result (λ fault. fault ≡ TaskFault.Write) }
+{
+    match writeln!(output, "not covered") {
+        Ok(()) => Ok(()),
+        Err(_) => Err(TaskFault::Write),
+    }
+}
+
+/// Reports what was found, and gives whether the bid is covered.
+pub fn write_finding<W: Write>(output: &mut W, found: &Surplus) -> Result<bool, TaskFault>
     ensures report { IfOk result (IsShown (W.contents output.old) (W.contents output.new) found.now) }
     ensures fault { IfErr result (λ fault. fault ≡ TaskFault.Write) }
 {
@@ -78,14 +110,14 @@ fn write_finding<W: Write>(output: &mut W, found: &Surplus) -> Result<bool, Task
             Ok(true)
         }
         Surplus::NotCovered => {
-            write_line(output, b"not covered\n")?;
+            write_not_covered(output)?;
             Ok(false)
         }
     }
 }
 
-/// Answers messages over a house, and over another of equal tables with one bid raised, and reports
-/// whether the bid is covered, so that it shows to nobody else. Ok is whether it is.
+/// Answers messages over a new house, and over another with one bid raised, and reports whether the
+/// bid is covered, so that it shows to nobody else. Ok is whether it is.
 pub fn report_surplus<S: Source + Drop, W: Write, K: Keep + Drop>(
     alloc: Global,
     trial: Trial<K, S>,
@@ -100,11 +132,9 @@ pub fn report_surplus<S: Source + Drop, W: Write, K: Keep + Drop>(
     write_finding(output, &found)
 }
 
-/// Answers messages over a house, and over another of equal tables with one bid raised, reports
-/// whether the bid is covered, so that it shows to nobody else, and gives the exit status: 0 where
-/// it is, and else 1. A fault is written in its line on `errors`.
-///
-/// The houses may have any history, and two new ones that were set up alike have the empty one.
+/// Answers messages over a new house, and over another with one bid raised, reports whether the bid
+/// is covered, so that it shows to nobody else, and gives the exit status: 0 where it is, and else
+/// 1. A fault is written in its line on `errors`.
 pub fn surplus_run<S: Source + Drop, W: Write, E: Sink, K: Keep + Drop>(
     alloc: Global,
     trial: Trial<K, S>,

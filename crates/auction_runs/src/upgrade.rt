@@ -7,12 +7,12 @@ ghost use Rattle.auction_runs.specs.Over.{IsOver};
 ghost use Rattle.auction_runs.specs.Printed.{upgraded_line};
 
 use crate::fault::{TaskFault, finish_run};
-use crate::output::write_line;
 use device::Sink;
 use house_rows::{Ends, KeepFault};
 use std::io::Write;
 
-// The line of a house that is upgraded, or of one that was of version 2 before.
+// The line of a house that is upgraded, or of one that was of version 2 before. It is given to the
+// output by one call, so that a process that is killed has written all of it or nothing.
 fn line(upgraded: bool) -> &'static [u8]
     ensures { result.now ≡ upgraded_line upgraded }
 {
@@ -20,6 +20,18 @@ fn line(upgraded: bool) -> &'static [u8]
         b"upgraded\n"
     } else {
         b"is version 2\n"
+    }
+}
+
+// Reports whether the house is upgraded.
+fn write_version<W: Write>(output: &mut W, upgraded: bool) -> Result<(), TaskFault>
+    ensures report { OnOk result
+        (Appends (W.contents output.old) (W.contents output.new) (upgraded_line upgraded)) }
+    ensures fault { IfErr result (λ fault. fault ≡ TaskFault.Write) }
+{
+    match output.write_all(line(upgraded)) {
+        Ok(()) => Ok(()),
+        Err(_) => Err(TaskFault::Write),
     }
 }
 
@@ -35,7 +47,7 @@ fn finish<W: Write>(
     ensures fault { IfErr result (IsOfEnded ended) }
 {
     ended?;
-    write_line(output, line(upgraded))
+    write_version(output, upgraded)
 }
 
 /// Ends the keep of a house that is upgraded, or was of version 2 before, reports which it is, and

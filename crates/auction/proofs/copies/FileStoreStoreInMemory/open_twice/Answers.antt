@@ -10,8 +10,7 @@ seen log db is_log history = (replay (cond is_log log db) history).seen
 pub returns-in-Ok-clause-copies : goal.returns-in-Ok-clause-copies
 returns-in-Ok-clause-copies g c = λ at clean.
     let fresh = c.in_ok-files.ensures.fresh at in
-    let same = ap₂ bytes_of (ap₂ (seen g.T.Start.log g.T.Start.db) fresh.0.0 fresh.0.1)
-    (ap₂ (seen g.T.Start.log g.T.Start.db) fresh.1.0 fresh.1.1) in
+    let same = ap₂ bytes_of (ap₂ (seen g.T.Start.log g.T.Start.db) fresh.0.0 fresh.0.1) (ap₂ (seen g.T.Start.log g.T.Start.db) fresh.1.0 fresh.1.1) in
     record {
       left_has = λ honest t held.
           c.in-Ok.ensures.left clean honest held.db (subst (λ i. HoldsDatabase i held.db) (sym same) held.holds)
