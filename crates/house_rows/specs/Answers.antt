@@ -1,9 +1,9 @@
 -- What a call leaves of a keep, by the record of the keep's ghosts. A contract over `K: Keep` has that record as `K.Keep`.
-use Rattle.std.specs.Prelude.{◌≡◌, IfOk, Result}
+use Rattle.std.specs.Prelude.{◌≡◌, Result}
+use Rattle.house_rows.specs.Answered.{IsAnswered}
 use Rattle.house_rows.specs.History.{History}
-use Rattle.house_rows.specs.Keeping.{Faults, IsRead}
+use Rattle.house_rows.specs.Keeping.{IsRead}
 use Rattle.house_rows.specs.Tables.{Tables, tables_of}
-use Rattle.house_rows.specs.Taken.{IsUndamaged}
 use Rattle.house_rows.specs.Verdict.{IsHistory}
 use Rattle.house_rows.specs.declared.fault.KeepFault.{KeepFault}
 use Rattle.house_rows.specs.declared.keep.Keep.{Ghosts}
@@ -13,13 +13,9 @@ use Rattle.house_rows.specs.declared.settings.Settings.{Settings}
 abbrev pub Reads : {K : Type 0} → Ghosts K → K → K → Type 0
 Reads keep = IsRead keep.content keep.is_failed keep.is_honest keep.may_leave
 
--- What a call promises that only looks. As long as the disk returns what was written, the answer is what is asked for of the
--- tables, and it is `Damaged` only where rows that it takes don't fit. Each fault has its cause, and nothing is changed.
-pub record Answers {K A : Type 0} (keep : Ghosts K) (old new : K) (result : Result A KeepFault) (IsAnswer : Tables → A → Type 0) (Fit : Tables → Type 0) : Type 0 where
-  pub value : keep.is_honest new → IfOk result (IsAnswer (keep.content old))
-  pub faults : Faults result (keep.is_honest new) (keep.is_failed new) (keep.content old)
-  pub damaged : keep.is_honest new → Fit (keep.content old) → IsUndamaged result
-  pub read : Reads keep old new
+-- what a call promises that only looks, as the look-ups of the keep do
+abbrev pub Answers : {K A : Type 0} → Ghosts K → K → K → Result A KeepFault → (Tables → A → Type 0) → (Tables → Type 0) → Type 0
+Answers keep = IsAnswered keep.content keep.is_failed keep.is_honest keep.may_leave
 
 -- as long as the disk returns what was written: P of each history whose tables the keep had
 abbrev pub OverHistory : {K : Type 0} → Ghosts K → K → K → (Settings → History → Type 0) → Type 0

@@ -24,4 +24,5 @@ pub mod Keeping
 pub mod Reached
 pub mod Taken
 pub mod Making
+pub mod Answered
 pub mod Answers

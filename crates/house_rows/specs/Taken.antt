@@ -1,9 +1,13 @@
 -- Which rows a look-up or a list of a keep takes: that these fit is enough for it not to be damaged.
-use Rattle.std.specs.Prelude.{◌≡◌, ◌-◌, ◌==◌, ◌||◌, ◌&&◌, if◌then◌else◌, ℕ, List, [], ◌∷◌, Bool, true, Result, IsErrOf, is_some, nat_le, nat_lt}
+use Rattle.std.specs.Prelude.{◌≡◌, ◌-◌, ◌==◌, ◌||◌, ◌&&◌, ◌<◌, ◌^◌, if◌then◌else◌, ℕ, List, [], ◌∷◌, Bool, true, Result, IsErrOf, filter, is_some, nat_le, nat_lt, not, take}
 use Rattle.std.specs.List.{AllByRecursion}
 use Rattle.proxy.specs.Bids.{is_leader}
 use Rattle.house_rows.specs.declared.fault.KeepFault.{KeepFault}
 use Rattle.house_rows.specs.declared.fault.KeepFault.TheVariants.{Damaged}
+use Rattle.house_rows.specs.declared.talk.Feedback.{Feedback}
+use Rattle.house_rows.specs.declared.talk.Question.{Question}
+use Rattle.house_rows.specs.Fits.{FeedbackFits, QuestionFits, WatchRowFits}
+use Rattle.house_rows.specs.Found.{is_watched, row_at, sells}
 use Rattle.house_rows.specs.History.{counted}
 use Rattle.house_rows.specs.Keeping.{RowFits}
 use Rattle.house_rows.specs.Limits.{most_shown}
@@ -53,3 +57,56 @@ is_near test number rows x =
 abbrev pub FirstFit : {A : Type 0} → (A → Bool) → (A → ℕ) → (A → Type 0) → List A → Type 0
 FirstFit test number Fits rows =
     AllByRecursion (λ x. test x ≡ true → is_near test number rows x ≡ true → Fits x) rows
+
+-- of the items that pass a test the first fifty fit
+abbrev pub FirstItemsFit : (ItemRow → Bool) → Tables → Type 0
+FirstItemsFit test t = AllByRecursion (RowFits t) (take most_shown (filter test t.items))
+
+-- of a category's items, from a number on, those fit that the list takes
+abbrev pub CategoryItemsFit : ℕ → ℕ → Tables → Type 0
+CategoryItemsFit category from =
+    FirstItemsFit (λ row. (row.item.terms.category == category)
+    && nat_le (start_of from) row.item.terms.item)
+
+-- of what a member sells the items fit whose reserves the list takes, and up to the last of them each number is one of 32 bits
+abbrev pub OwnReservesFit : ℕ → ℕ → Tables → Type 0
+OwnReservesFit member from t =
+    AllByRecursion (λ row. row.item.terms.item < 2 ^ 32) (up_to most_shown
+    (has_own_reserve member from) (filter (λ row. row.item.terms.seller == member) t.items))
+    × FirstItemsFit (has_own_reserve member from) t
+
+-- a member's watches fit, and the items that it watches
+abbrev pub WatchedFit : ℕ → Tables → Type 0
+WatchedFit member t =
+    FitWhere (λ w. w.member == member) WatchRowFits t.watches
+    × ItemsFitWhere (λ row. is_watched t member row.item.terms.item) t
+
+-- of the published questions on an item, from an asker on, those fit that the list takes
+abbrev pub PublishedFit : ℕ → ℕ → List Question → Type 0
+PublishedFit item from rows = FirstFit (λ q. ((q.item == item) && is_some q.answer) && nat_le from q.asker) (λ q. q.asker) QuestionFits rows
+
+-- of a member's questions, from an item on
+abbrev pub AskedFit : ℕ → ℕ → List Question → Type 0
+AskedFit asker from rows = FirstFit (λ q. (q.asker == asker) && nat_le from q.item) (λ q. q.item) QuestionFits rows
+
+-- of the feedback to a member, from an item on; and all of it that has no item of ours, since the list may take it wherever
+-- it is stored
+pub record GivenFit (member from : ℕ) (rows : List Feedback) : Type 0 where
+  pub near : FirstFit (λ f. (f.to == member) && nat_le from f.item) (λ f. f.item) FeedbackFits rows
+  pub far : FitWhere (λ f. (f.to == member) && nat_le 4294967296 f.item) FeedbackFits rows
+
+-- whether a question waits for a member's answer
+abbrev pub waits_for : Tables → ℕ → Question → Bool
+waits_for t member q = not (is_some q.answer) && sells (row_at t q.item) member
+
+-- the items that a member sells fit, and the questions that wait for its answer
+abbrev pub AllWaitingFit : ℕ → Tables → Type 0
+AllWaitingFit member t =
+    ItemsFitWhere (λ row. row.item.terms.seller == member) t
+    × FitWhere (waits_for t member) QuestionFits t.questions
+
+-- and of these questions those that a list of at most fifty takes
+abbrev pub FirstWaitingFit : ℕ → Tables → Type 0
+FirstWaitingFit member t =
+    ItemsFitWhere (λ row. row.item.terms.seller == member) t
+    × FirstFit (waits_for t member) (λ q. q.item) QuestionFits t.questions

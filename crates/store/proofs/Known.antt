@@ -1,11 +1,12 @@
 -- What a keep knows of its house: its band tables are those of the tables. And what it reports of a
 -- call that failed.
 use Rattle.std.proofs.Common.{◌≡◌, ◌∙◌, ℕ, List, Bool, true, false, ap, refl, subst, sym, arith, Option, Some, None, option_map}
+use Rattle.house_rows.specs.Answered.{IsAnswered}
 use Rattle.std.specs.Prelude.{◌==◌, ◌&&◌, ◌↔◌, Err, IfSome, IsErrOf, option_and_then}
 use Rattle.std.proofs.lemmas.Bool.Decides.{nat_tests}
 use Rattle.std.specs.List.{AllByRecursion}
 use Rattle.sqlite_trees.specs.Tree.{Trees}
-use Rattle.house_rows.specs.Keeping.{AllConsistent, AreSound, AreSoundBy, Faults, FitsBy, RowFits, IsConsistentAt, IsConsistentBy, IsConsistentIn}
+use Rattle.house_rows.specs.Keeping.{AllConsistent, AreSound, AreSoundBy, Faults, FitsBy, RowFits, IsConsistentAt, IsConsistentBy, IsConsistentIn, IsRead}
 use Rattle.house_rows.specs.Taken.{FitWhere}
 use Rattle.house_rows.specs.Editions.{BandTables}
 use Rattle.proxy.specs.Kept.{Kept}
@@ -99,6 +100,20 @@ pub report_sound : {A : Type 0} (fault report : KeepFault) (failed : Bool) (hone
 report_sound fault report failed honest t same store none = record {
   store = (λ is. store.0 (the_fault is), λ down. ap Err (store.1 down));
   damaged = λ h sound is. no_damage fault report failed same store (none h sound) (the_fault is);
+}
+
+-- what a look-up answers that failed, where the rows that it takes fit in sound tables, and the fault below is no damage
+-- where they do
+pub failed_look : {K A : Type 0} {content : K → Tables} {is_failed : K → Bool} {is_honest : K → Type 0} {may_leave : K → Tables → Type 0} {old new : K} {IsAnswer : Tables → A → Type 0} {Fit : Tables → Type 0} (fault report : KeepFault)
+    → (is_failed new ≡ false → report ≡ fault) → ((report ≡ Store) ↔ (is_failed new ≡ true))
+    → (AreSound (content old) → Fit (content old)) → (is_honest new → Fit (content old) → ¬ (fault ≡ Damaged))
+    → IsRead content is_failed is_honest may_leave old new
+    → IsAnswered content is_failed is_honest may_leave old new (Err report) IsAnswer Fit
+failed_look {content = content} {is_failed = is_failed} {is_honest = is_honest} {old = old} {new = new} fault report same store takes none read = record {
+  value = λ honest. tt;
+  faults = report_sound fault report (is_failed new) (is_honest new) (content old) same store (λ honest sound. none honest (takes sound));
+  damaged = λ honest fits is. no_damage fault report (is_failed new) same store (none honest fits) (the_fault is);
+  read = read;
 }
 
 -- a keep that has not failed serves by the reserves that it knows

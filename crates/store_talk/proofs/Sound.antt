@@ -16,7 +16,7 @@ use Rattle.store_rows.specs.Rows.{feedback_in, question_of, questions_in}
 use Rattle.store_rows.specs.Tables.{tables_in}
 use Rattle.store_rows.proofs.ShownRows.{found_fits}
 use Rattle.store_rows.proofs.Sound.{feedback_fits, questions_fit, rows_fit}
-use Rattle.store_talk.specs.Fitting.{AskedFit, GivenFit, PublishedFit}
+use Rattle.house_rows.specs.Taken.{AskedFit, GivenFit, PublishedFit}
 use Rattle.store_talk.specs.Waiting.{AllWaitingFit, FirstWaitingFit, waits_for}
 
 -- where all rows fit, those do that pass a test, and those that a list of at most fifty takes

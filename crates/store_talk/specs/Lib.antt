@@ -1,5 +1,4 @@
 pub mod Answers
-pub mod Fitting
 pub mod Spoiled
 pub mod Taken
 pub mod Texts

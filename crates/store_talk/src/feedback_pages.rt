@@ -14,7 +14,7 @@ ghost use Rattle.store_rows.specs.Rows.{feedback_in, feedback_of};
 ghost use Rattle.store_rows.specs.Sorted.{sorted_feedback};
 ghost use Rattle.store_rows.specs.Tables.{tables_in};
 ghost use Rattle.store_rows.specs.Frames.{Finds};
-ghost use Rattle.store_talk.specs.Fitting.{GivenFit};
+ghost use Rattle.house_rows.specs.Taken.{GivenFit};
 ghost use Rattle.store_talk.specs.Spoiled.{IsSpoiled};
 ghost use Rattle.store_talk.specs.Texts.{given_text, stray_feedback_text};
 

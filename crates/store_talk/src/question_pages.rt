@@ -14,7 +14,7 @@ ghost use Rattle.store_rows.specs.Rows.{question_of, questions_in};
 ghost use Rattle.store_rows.specs.Sorted.{sorted_questions};
 ghost use Rattle.store_rows.specs.Tables.{tables_in};
 ghost use Rattle.store_rows.specs.Frames.{Finds};
-ghost use Rattle.store_talk.specs.Fitting.{AskedFit, PublishedFit};
+ghost use Rattle.house_rows.specs.Taken.{AskedFit, PublishedFit};
 ghost use Rattle.store_talk.specs.Waiting.{waiting_in, WaitingFit};
 ghost use Rattle.store_talk.specs.Spoiled.{IsSpoiled};
 ghost use Rattle.store_talk.specs.Texts.{published_text, questions_text, stray_asked_text, stray_askers_text};

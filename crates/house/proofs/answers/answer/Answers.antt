@@ -19,7 +19,7 @@ found : (g : _) (c : In_ok-question g) → g.K.Keep.is_honest c.question.new.sel
     → c.in_ok-question.field-0 ≡ question_at (g.K.Keep.content c.args.keep.now) c.args.item c.args.asker c.args.number
 found g c honest =
     rw (still_there c.in_ok-on.field-0 g.K.Keep.content g.K.Keep.is_failed g.K.Keep.is_honest g.K.Keep.may_leave c.args.keep.now c.on_item.new.keep
-    c.in_ok-on.ensures.faults c.in_ok-on.ensures.read (c.in_ok-question.ensures.read.honest honest)) at (c.in_ok-question.ensures.value honest)
+    c.in_ok-on.ensures.faults c.in_ok-on.ensures.read (c.in_ok-question.ensures.answers.read.honest honest)) at (c.in_ok-question.ensures.answers.value honest)
 
 pub returns-in-Err : goal.returns-in-Err
 returns-in-Err g c = refuses c.in_ok-on.ensures.faults c.in_ok-on.ensures.read (λ honest settings h is e.
@@ -32,23 +32,23 @@ returns-then-from-caller g c = refuses c.in_ok-on.ensures.faults c.in_ok-on.ensu
     (sells_not c.from.result c.in-Ok.on.terms.seller c.args.caller c.from.ensures c.if-from-caller.true))
 
 pub returns-in-Err-waiting : goal.returns-in-Err-waiting
-returns-in-Err-waiting g c = refuses c.in_ok-question.ensures.faults
-    (looked c.in_ok-on.ensures.faults c.in_ok-on.ensures.read c.in_ok-question.ensures.read) (λ honest settings h is e.
-    let on = rw c.in-Ok.is at c.in_ok-on.ensures.value (c.in_ok-question.ensures.read.honest honest) in
+returns-in-Err-waiting g c = refuses c.in_ok-question.ensures.answers.faults
+    (looked c.in_ok-on.ensures.faults c.in_ok-on.ensures.read c.in_ok-question.ensures.answers.read) (λ honest settings h is e.
+    let on = rw c.in-Ok.is at c.in_ok-on.ensures.value (c.in_ok-question.ensures.answers.read.honest honest) in
     answer_of_seller (g.K.Keep.content c.args.keep.now) settings h c.args.moment c.args.caller c.args.item c.args.asker c.args.number c.args.text.now c.in-Ok.on.terms e on.1 on.2
     (sells c.from.result c.in-Ok.on.terms.seller c.args.caller c.from.ensures c.if-from-caller.false)
     ∙ sym (rw (found g (goal.at.returns-in-Err-waiting g c).In_ok-question honest) at c.in-Err-waiting.ensures))
 
 pub returns-in-Ok-waiting : goal.returns-in-Ok-waiting
-returns-in-Ok-waiting g c = accepts c.in_ok-question.ensures.faults
-    (looked c.in_ok-on.ensures.faults c.in_ok-on.ensures.read c.in_ok-question.ensures.read)
+returns-in-Ok-waiting g c = accepts c.in_ok-question.ensures.answers.faults
+    (looked c.in_ok-on.ensures.faults c.in_ok-on.ensures.read c.in_ok-question.ensures.answers.read)
     (λ honest settings h is e.
-    let on = rw c.in-Ok.is at c.in_ok-on.ensures.value (c.in_ok-question.ensures.read.honest honest) in
+    let on = rw c.in-Ok.is at c.in_ok-on.ensures.value (c.in_ok-question.ensures.answers.read.honest honest) in
     let asked = rw (found g (goal.at.returns-in-Ok-waiting g c).In_ok-question honest) at c.in-Ok-waiting.ensures in
     answer_accepts (g.K.Keep.content c.args.keep.now) settings h c.args.moment c.args.caller c.args.item c.args.asker c.args.number c.args.text.now c.in-Ok.on.terms c.in-Ok-waiting.question c.args.text
     e refl on.1 on.2 (sells c.from.result c.in-Ok.on.terms.seller c.args.caller c.from.ensures c.if-from-caller.false) asked.0 asked.1)
     (λ honest rows change_rows.
-    let on = rw c.in-Ok.is at c.in_ok-on.ensures.value (c.in_ok-question.ensures.read.honest honest) in
+    let on = rw c.in-Ok.is at c.in_ok-on.ensures.value (c.in_ok-question.ensures.answers.read.honest honest) in
     let asked = rw (found g (goal.at.returns-in-Ok-waiting g c).In_ok-question honest) at c.in-Ok-waiting.ensures in
     answer_fits (g.K.Keep.content c.args.keep.now) c.args.moment c.args.caller c.args.item c.args.asker c.args.number c.args.text.now c.in-Ok-waiting.question c.args.text
     refl on.2 asked.0 asked.1)

@@ -7,7 +7,7 @@ returns-in_err-feedback_for g c = record {
   page = search rules;
   fits = search rules;
   faults = search rules;
-  damaged = λ honest fit. by_second g.K.Keep c.in_err-feedback_for.field-0.0 _ c.in_ok-has_member.ensures.read (search rules)
-      c.in_err-feedback_for.ensures.read c.from_residual-in_err-feedback_for.ensures.1 honest (λ same. c.in_err-feedback_for.ensures.damaged honest (rw same fit.1) (rw same fit.2));
+  damaged = λ honest fit. by_second g.K.Keep c.in_err-feedback_for.field-0.0 _ c.in_ok-has_member.ensures.answers.read (search rules)
+      c.in_err-feedback_for.ensures.answers.read c.from_residual-in_err-feedback_for.ensures.1 honest (λ same. c.in_err-feedback_for.ensures.answers.damaged honest (rw same fit.1));
   read = search rules;
 }

@@ -8,7 +8,7 @@ use Rattle.store_rows.specs.Rows.{feedback_in}
 use Rattle.store_rows.specs.Sorted.{sorted_feedback}
 use Rattle.store_rows.proofs.Both.{ok_both}
 use Rattle.store_rows.proofs.Sound.{feedback_where}
-use Rattle.store_talk.specs.Fitting.{GivenFit}
+use Rattle.house_rows.specs.Taken.{GivenFit}
 use Rattle.store_talk.proofs.FeedbackPages.{given_found, given_stored}
 use Rattle.store_talk.proofs.feedback_pages.feedback_to.Goals as goal
 

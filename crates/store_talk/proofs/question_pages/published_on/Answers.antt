@@ -7,7 +7,7 @@ use Rattle.house_rows.specs.Taken.{start_of}
 use Rattle.store_rows.specs.Rows.{questions_in}
 use Rattle.store_rows.specs.Sorted.{sorted_questions}
 use Rattle.store_rows.proofs.Both.{ok_both}
-use Rattle.store_talk.specs.Fitting.{PublishedFit}
+use Rattle.house_rows.specs.Taken.{PublishedFit}
 use Rattle.store_talk.proofs.QuestionPages.{published_found, published_stored}
 use Rattle.store_talk.proofs.question_pages.published_on.Goals as goal
 

@@ -7,7 +7,7 @@ use Rattle.house_rows.specs.Taken.{start_of}
 use Rattle.store_rows.specs.Rows.{questions_in}
 use Rattle.store_rows.specs.Sorted.{sorted_questions}
 use Rattle.store_rows.proofs.Both.{ok_both}
-use Rattle.store_talk.specs.Fitting.{AskedFit}
+use Rattle.house_rows.specs.Taken.{AskedFit}
 use Rattle.store_talk.proofs.QuestionPages.{questions_found, asked_stored}
 use Rattle.store_talk.proofs.question_pages.questions_of.Goals as goal
 

@@ -6,7 +6,7 @@ pub returns-clause-report : goal.returns-clause-report
 returns-clause-report g c = λ honest settings h is e.
     let k = g.K.Keep in
     let first = c.in_ok-counts.ensures in
-    let second = c.in_ok-clock.ensures in
+    let second = c.in_ok-clock.ensures.answers in
     let before = second.read.honest honest in
     let start = first.read.honest before in
     new_reported settings h (k.content c.args.self.now.keep) (k.content c.counts.new.self)

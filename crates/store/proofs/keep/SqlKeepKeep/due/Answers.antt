@@ -1,33 +1,26 @@
-use Rattle.std.proofs.Common.{ap, arith}
+use Rattle.std.proofs.Common.{ap, arith, rules}
+use Rattle.house_rows.proofs.Sound.{fit_where}
 use Rattle.std.specs.Prelude.{Err}
 use Rattle.sqlite.specs.Held.{state}
 use Rattle.sqlite.specs.State.{HasCleanDisk}
-use Rattle.house_rows.specs.Items.{is_due}
-use Rattle.house_rows.specs.Tables.{ItemRow}
 use Rattle.store_rows.specs.Tables.{tables_in}
-use Rattle.store_items.proofs.SoundItems.{items_sound}
-use Rattle.store.proofs.Known.{all_are_consistent, known_serves, known_rows, known_where, not_reported, report_sound, works}
+use Rattle.store.proofs.Known.{all_are_consistent, known_serves, known_where, works, failed_look}
 use Rattle.store.proofs.keep.SqlKeepKeep.due.Goals as goal
 
 pub due-requires : goal.due-requires
 due-requires g c = known_serves g.S.Store _ c.self.invariant (works _ _ c.self.view_is c.in_ok-serves.ensures.ok)
 
-pub returns-in-Err-clause-faults : goal.returns-in-Err-clause-faults
-returns-in-Err-clause-faults g c = rw (← c.self.view_is)
-    (report_sound _ _ _ _ _ c.reported_fault.ensures.fault c.reported_fault.ensures.store (λ honest sound is.
+pub returns-in-Err-clause-answers : goal.returns-in-Err-clause-answers
+returns-in-Err-clause-answers g c = failed_look _ _ c.reported_fault.ensures.fault c.reported_fault.ensures.store
+    (λ sound. fit_where _ _ _ sound.items)
+    (rw (← c.self.view_is) (λ honest fits is.
     let clean : HasCleanDisk (state g.S.Store c.due.new.conn) = omega (arith, c.reported_fault.ensures.crash.clean, honest) in
     let before : HasCleanDisk (state g.S.Store c.self.inside.conn) = omega (arith, c.in-Err.ensures.read.crash.clean, clean) in
-    c.in-Err.ensures.damaged clean (items_sound c.self.inside.rules.editions (state g.S.Store c.self.inside.conn).now.trees (known_rows _ _ _ _ _ (c.self.invariant.known (works _ _ c.self.view_is c.in_ok-serves.ensures.ok) before) sound) (λ (row : ItemRow). is_due c.args.moment row.item.terms)) (ap Err is)))
+    c.in-Err.ensures.damaged clean (known_where _ _ _ _ _ (c.self.invariant.known (works _ _ c.self.view_is c.in_ok-serves.ensures.ok) before) _ fits) (ap Err is)))
+    (search rules)
 
 pub returns-in-Ok-clause-is_consistent : goal.returns-in-Ok-clause-is_consistent
 unfolding tables_in
 returns-in-Ok-clause-is_consistent g c = λ honest.
     let before : HasCleanDisk (state g.S.Store c.self.inside.conn) = omega (arith, c.in-Ok.ensures.read.crash.clean, honest) in
     rw (← c.self.view_is) (all_are_consistent _ _ _ _ _ (c.self.invariant.known (works _ _ c.self.view_is c.in_ok-serves.ensures.ok) before) _ (c.in-Ok.ensures.value honest).is_consistent)
-
-pub returns-in-Err-clause-damaged : goal.returns-in-Err-clause-damaged
-returns-in-Err-clause-damaged g c = rw (← c.self.view_is)
-    (λ honest fits. not_reported _ _ _ c.reported_fault.ensures.fault c.reported_fault.ensures.store (λ is.
-    let clean : HasCleanDisk (state g.S.Store c.due.new.conn) = omega (arith, c.reported_fault.ensures.crash.clean, honest) in
-    let before : HasCleanDisk (state g.S.Store c.self.inside.conn) = omega (arith, c.in-Err.ensures.read.crash.clean, clean) in
-    c.in-Err.ensures.damaged clean (known_where _ _ _ _ _ (c.self.invariant.known (works _ _ c.self.view_is c.in_ok-serves.ensures.ok) before) _ fits) (ap Err is)))

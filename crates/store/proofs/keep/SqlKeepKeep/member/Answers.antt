@@ -1,16 +1,29 @@
+use Rattle.store_house.proofs.PeopleSound.{member_fits}
 use Rattle.std.proofs.Common.{ap, arith, ◌≡◌, rules}
 use Rattle.std.specs.Prelude.{Err}
 use Rattle.sqlite.specs.Held.{state}
 use Rattle.sqlite.specs.State.{HasCleanDisk}
 use Rattle.store_rows.specs.Tables.{tables_in}
-use Rattle.store.proofs.Known.{not_reported}
+use Rattle.store.proofs.Known.{failed_look}
 use Rattle.store.proofs.keep.SqlKeepKeep.member.Goals as goal
 
-pub returns-in-Err-clause-damaged : goal.returns-in-Err-clause-damaged
+pub returns-in-Err-clause-answers : goal.returns-in-Err-clause-answers
 unfolding tables_in
-returns-in-Err-clause-damaged g c = rw (← c.self.view_is)
-    (λ honest fits. not_reported _ _ _ c.reported_fault.ensures.fault c.reported_fault.ensures.store (λ is.
+returns-in-Err-clause-answers g c = failed_look _ _ c.reported_fault.ensures.fault c.reported_fault.ensures.store
+    (rw (← c.self.view_is) (λ sound. member_fits _ _ sound))
+    (rw (← c.self.view_is) (λ honest fits is.
     let clean : HasCleanDisk (state g.S.Store c.member_at.new.conn) = omega (arith, c.reported_fault.ensures.crash.clean, honest) in
     let same : c.in-Ok.member ≡ c.args.member = search rules in
     let stored = rw (← same) at fits in
     c.in-Err.ensures.finds.damaged clean stored (ap Err is)))
+    (search rules)
+
+pub returns-in-Ok-member_at-clause-answers : goal.returns-in-Ok-member_at-clause-answers
+unfolding tables_in
+returns-in-Ok-member_at-clause-answers g c = record {
+  value = let same : c.in-Ok.member ≡ c.args.member = search rules in
+      rw (← c.self.view_is, ← same) (λ honest. c.in-Ok-member_at.ensures.finds.value honest);
+  faults = search rules;
+  damaged = search rules;
+  read = search rules;
+}

@@ -1,4 +1,4 @@
-use Rattle.std.proofs.Common.{refl, subst}
+use Rattle.std.proofs.Common.{refl, subst, rules}
 use Rattle.std.specs.List.{AllByRecursion}
 use Rattle.house_rows.specs.Fits.{OwnBidFits}
 use Rattle.house_rows.specs.Keeping.{AreSound, IsConsistentAt}
@@ -9,8 +9,13 @@ use Rattle.store_list.proofs.keep.ListKeepKeep.bids_of.Goals as goal
 pub own_bids-requires : goal.own_bids-requires
 own_bids-requires c = record { in_turn = c.self.invariant.sound.items_in_turn }
 
-pub returns-clause-value : goal.returns-clause-value
-returns-clause-value c = λ _. c.own_bids.ensures.value c.args.self.now (rw (← c.self.view_is) refl) (rw (← c.self.view_is) refl)
+pub returns-clause-answers : goal.returns-clause-answers
+returns-clause-answers c = record {
+  value = λ _. c.own_bids.ensures.value c.args.self.now (rw (← c.self.view_is) refl) (rw (← c.self.view_is) refl);
+  faults = search rules;
+  damaged = search rules;
+  read = search rules;
+}
 
 pub returns-clause-fits : goal.returns-clause-fits
 returns-clause-fits c = (ok_items (λ xs. AllByRecursion OwnBidFits xs) c.own_bids.result _ (c.own_bids.ensures.value c.args.self.now (rw (← c.self.view_is) refl) (rw (← c.self.view_is) refl))

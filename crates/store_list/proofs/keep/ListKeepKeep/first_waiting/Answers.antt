@@ -14,10 +14,15 @@ use Rattle.store_list.proofs.keep.ListKeepKeep.first_waiting.Goals as goal
 pub first_waiting_on-requires-clause-rising : goal.first_waiting_on-requires-clause-rising
 first_waiting_on-requires-clause-rising c = risen c.sold_by-own.result.now c.sold_by-own.ensures.rising
 
-pub returns-clause-value : goal.returns-clause-value
-returns-clause-value c = λ _. ok_same c.first_waiting_on.result _ _ (c.first_waiting_on.ensures.value (λ item. sells (find (is_item item) c.self.inside.items) c.args.member) (λ item answer given. search (rules, tests))
-    (own_complete c.args.member c.sold_by-own.result.now c.self.inside.items c.self.inside.questions c.sold_by-own.ensures.complete))
-    (ap (λ t. first_waiting t c.args.member) c.self.view_is)
+pub returns-clause-answers : goal.returns-clause-answers
+returns-clause-answers c = record {
+  value = λ _. ok_same c.first_waiting_on.result _ _ (c.first_waiting_on.ensures.value (λ item. sells (find (is_item item) c.self.inside.items) c.args.member) (λ item answer given. search (rules, tests))
+      (own_complete c.args.member c.sold_by-own.result.now c.self.inside.items c.self.inside.questions c.sold_by-own.ensures.complete))
+      (ap (λ t. first_waiting t c.args.member) c.self.view_is);
+  faults = search rules;
+  damaged = search rules;
+  read = search rules;
+}
 
 pub returns-clause-fits : goal.returns-clause-fits
 returns-clause-fits c =

@@ -1,4 +1,4 @@
-use Rattle.std.proofs.Common.{List, Bool, take, filter, map}
+use Rattle.std.proofs.Common.{List, Bool, take, filter, map, rules}
 use Rattle.std.specs.Prelude.{◌==◌, ◌&&◌, nat_le}
 use Rattle.std.specs.List.{AllByRecursion}
 use Rattle.house_rows.specs.declared.item.Item.{Item}
@@ -9,8 +9,13 @@ use Rattle.store_list.proofs.Fitting.{filter_fits, items_fit, ok_items, take_fit
 use Rattle.store_list.proofs.Fitting.{first_are_consistent, ok_items_are_consistent}
 use Rattle.store_list.proofs.keep.ListKeepKeep.items_in.Goals as goal
 
-pub returns-clause-value : goal.returns-clause-value
-returns-clause-value c = λ _. rw (← c.self.view_is) c.in_category.ensures.value
+pub returns-clause-answers : goal.returns-clause-answers
+returns-clause-answers c = record {
+  value = λ _. rw (← c.self.view_is) c.in_category.ensures.value;
+  faults = search rules;
+  damaged = search rules;
+  read = search rules;
+}
 
 pub returns-clause-fits : goal.returns-clause-fits
 returns-clause-fits c =

@@ -1,4 +1,4 @@
-use Rattle.std.proofs.Common.{List, Bool, take, filter}
+use Rattle.std.proofs.Common.{List, Bool, take, filter, rules}
 use Rattle.std.specs.Prelude.{◌==◌, ◌&&◌, nat_le, is_some}
 use Rattle.std.specs.List.{AllByRecursion}
 use Rattle.house_rows.specs.declared.talk.Question.{Question}
@@ -7,8 +7,13 @@ use Rattle.house_rows.specs.Limits.{most_shown}
 use Rattle.store_list.proofs.Fitting.{filter_fits, ok_items, take_fits}
 use Rattle.store_list.proofs.keep.ListKeepKeep.published.Goals as goal
 
-pub returns-clause-value : goal.returns-clause-value
-returns-clause-value c = λ _. rw (← c.self.view_is) c.published.ensures.value
+pub returns-clause-answers : goal.returns-clause-answers
+returns-clause-answers c = record {
+  value = λ _. rw (← c.self.view_is) c.published.ensures.value;
+  faults = search rules;
+  damaged = search rules;
+  read = search rules;
+}
 
 pub returns-clause-fits : goal.returns-clause-fits
 returns-clause-fits c =

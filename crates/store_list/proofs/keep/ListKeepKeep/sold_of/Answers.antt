@@ -1,4 +1,4 @@
-use Rattle.std.proofs.Common.{◌≢◌, ◌≤◌, length, refl, subst}
+use Rattle.std.proofs.Common.{◌≢◌, ◌≤◌, length, refl, subst, rules}
 use Rattle.std.specs.Prelude.{All, AllPairs}
 use Rattle.settle.specs.Statement.{IsSale}
 use Rattle.settle.specs.declared.sale.Sold.{Sold}
@@ -16,8 +16,13 @@ sales_of-requires c = record {
   led = sold_led _ _ c.self.view_is c.self.invariant.sound;
 }
 
-pub returns-clause-value : goal.returns-clause-value
-returns-clause-value c = λ _. c.sales_of.ensures.value c.args.self.now (rw (← c.self.view_is) refl)
+pub returns-clause-answers : goal.returns-clause-answers
+returns-clause-answers c = record {
+  value = λ _. c.sales_of.ensures.value c.args.self.now (rw (← c.self.view_is) refl);
+  faults = search rules;
+  damaged = search rules;
+  read = search rules;
+}
 
 pub returns-clause-fits : goal.returns-clause-fits
 returns-clause-fits c = ok_items (λ xs. All IsSale xs) c.sales_of.result _ (c.sales_of.ensures.value c.args.self.now (rw (← c.self.view_is) refl))

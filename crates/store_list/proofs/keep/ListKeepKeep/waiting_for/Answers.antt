@@ -13,9 +13,14 @@ use Rattle.store_list.proofs.keep.ListKeepKeep.waiting_for.Goals as goal
 pub waiting_on-requires-clause-rising : goal.waiting_on-requires-clause-rising
 waiting_on-requires-clause-rising c = risen c.sold_by-own.result.now c.sold_by-own.ensures.rising
 
-pub returns-clause-value : goal.returns-clause-value
-returns-clause-value c = λ _. rw (← c.self.view_is) (c.waiting_on.ensures.value (λ item. sells (find (is_item item) c.self.inside.items) c.args.member) (λ item answer given. search (rules, tests))
-    (own_complete c.args.member c.sold_by-own.result.now c.self.inside.items c.self.inside.questions c.sold_by-own.ensures.complete))
+pub returns-clause-answers : goal.returns-clause-answers
+returns-clause-answers c = record {
+  value = λ _. rw (← c.self.view_is) (c.waiting_on.ensures.value (λ item. sells (find (is_item item) c.self.inside.items) c.args.member) (λ item answer given. search (rules, tests))
+      (own_complete c.args.member c.sold_by-own.result.now c.self.inside.items c.self.inside.questions c.sold_by-own.ensures.complete));
+  faults = search rules;
+  damaged = search rules;
+  read = search rules;
+}
 
 pub returns-clause-fits : goal.returns-clause-fits
 returns-clause-fits c =
