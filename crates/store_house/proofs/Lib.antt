@@ -1,3 +1,4 @@
+pub mod ArrangedLemmas
 pub mod CategoryMeaning
 pub mod CategoryLemmas
 pub mod CountMeaning
@@ -12,6 +13,7 @@ pub mod NewHouse
 pub mod NumberLemmas
 pub mod NumbersMeaning
 pub mod NumbersLemmas
+pub mod NamedLemmas
 pub mod OpenLemmas
 pub mod PutMeaning
 pub mod PutLemmas

@@ -1,3 +1,6 @@
+pub mod Named
 pub mod Opening
+pub mod Over
+pub mod Places
 pub mod Plain
 pub mod Putting

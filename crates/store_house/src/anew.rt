@@ -24,7 +24,7 @@ use std::alloc::Global;
 use store_rows::{FIRST_STEPS, STEPS, fault_of, make_steps};
 
 // Why a store is refused: it holds no database, memory was wanted, or it failed.
-fn refusal(error: Error) -> KeepFault
+pub(crate) fn refusal(error: Error) -> KeepFault
     ensures { result ≡ Damaged → error ≡ SqliteFailure NotADatabase }
 {
     match error {
@@ -95,7 +95,7 @@ fn house_in_memory(alloc: Global, steps: usize) -> Result<Connection<MemStore>, 
 }
 
 // Whether a schema is that of a house made by so many steps. Memory is the only fault.
-fn is_made_by(alloc: Global, schema: &Schema, steps: usize) -> Result<bool, KeepFault>
+pub(crate) fn is_made_by(alloc: Global, schema: &Schema, steps: usize) -> Result<bool, KeepFault>
     requires steps { steps ≤ 19 }
     requires plain { IsPlainSchema (made_by steps) }
     ensures value { IfOk result (λ is. IsTrue is ↔ (schema.now ≡ made_by steps)) }
@@ -106,7 +106,7 @@ fn is_made_by(alloc: Global, schema: &Schema, steps: usize) -> Result<bool, Keep
 }
 
 // Whether a schema is that of a house of version 1, or of this version; Damaged where it is neither.
-fn is_first_schema(alloc: Global, schema: &Schema) -> Result<bool, KeepFault>
+pub(crate) fn is_first_schema(alloc: Global, schema: &Schema) -> Result<bool, KeepFault>
     ensures value { IfOk result (λ is. (is ≡ true → schema.now ≡ first_schema)
         × (is ≡ false → schema.now ≡ house_schema)) }
     ensures damaged { IsErrOf result Damaged

@@ -1,0 +1,213 @@
+-- A house that is shown in its order is found by its names.
+use Rattle.std.proofs.Common.{◌≡◌, ◌<◌, ◌+◌, ◌∙◌, ℕ, suc, pos, true, cond, List, [], ◌∷◌, ◌++◌, map, filter, find, length, not, Option, Some, None, refl, sym, ap, subst, arith, inl, inr, true≢false, add-one, is_eq, lt-ltb, eqb}
+use Rattle.std.specs.Prelude.{unwrap_or}
+use Rattle.std.specs.List.{AllByRecursion, list_any}
+use Rattle.std.proofs.lemmas.Bool.{and_parts, cases_Bool, cases_lt}
+use Rattle.std.proofs.lemmas.Cmp.{tied_itself}
+use Rattle.std.proofs.lemmas.Map.Text.{is_eq-slice_cmp}
+use Rattle.std.proofs.lemmas.Slice.Eq.{bytes_eq-Decides}
+use Rattle.sqlite_value.specs.declared.value.Value.{Value}
+use Rattle.sqlite_value.specs.declared.value.Value.TheVariants.{Null, Int, Real, Text, Blob}
+use Rattle.sqlite_value.specs.Order.{Row, bytes, column, value_cmp}
+use Rattle.sqlite_value.proofs.OrderLemmas.{value_cmp-Text, value_cmp-apart, value_cmp_total}
+use Rattle.sqlite_trees.proofs.TreeLemmas.{all-put_row}
+use Rattle.sqlite_trees.specs.Objects.{catalog_tree, row_for}
+use Rattle.sqlite_trees.specs.Sound as sound
+use Rattle.sqlite_trees.specs.Sound.{Head, are_in_order, head_at, is_word, may_follow}
+use Rattle.sqlite_trees.specs.Tree.{Trees, has_rowid, rowid}
+use Rattle.sqlite_trees.specs.View.{IsShaped}
+use Rattle.sqlite_trees.specs.declared.store.Shape.TheVariants.{Table}
+use Rattle.sqlite_catalog.proofs.LayoutLemmas.{row_found, zipped_left}
+use Rattle.sqlite_catalog.proofs.SoundLemmas.{list_parts, names_agree}
+use Rattle.sqlite_catalog.proofs.StepLemmas.{same_itself}
+use Rattle.sqlite_catalog.specs.Listing.{AreListed, IsTableRow, is_table_row}
+use Rattle.sqlite_rules.proofs.ListLemmas.{all_has, has_filtered, has_found, has_left, has_right, some_from}
+use Rattle.sqlite_rules.specs.Lists.{Has}
+use Rattle.sqlite_schema.specs.declared.schema.Schema.{Schema}
+use Rattle.sqlite_schema.specs.declared.schema.Table.{Table as SqlTable}
+use Rattle.store_house.specs.Named.{IsReordered, house_names, tables_held}
+use Rattle.store_house.specs.Places.{by_names, tree_named, tree_or}
+use Rattle.store_rows.specs.Schema.{band_table, bid_table, category_table, edition_table, feedback_table, house_schema, house_table, item_table, later_band_table, member_table, question_table, reserve_table, watch_table}
+use Rattle.store_rows.specs.Tables.{house_row_in, settings_in, tables_in}
+use Rattle.tree_order.specs.NumberLaws.{number_back, number_past, other_way}
+use Rattle.tree_order.specs.Numbers.{AreInverse, number}
+use Rattle.tree_order.specs.Renumbered.{renumbered_trees}
+use Rattle.tree_order.specs.RowLaws.{column_kept, renumbered_table, row_for_renumbered, rows_back}
+use Rattle.tree_order.specs.Rows.{in_order, renumbered_id, renumbered_row, renumbered_rows, shifted}
+use Rattle.tree_order.specs.TableLaws.{test_from_table}
+
+-- ---- a name comes once
+
+same_text : (name : List ℕ) → sound.same_name (bytes (Text name)) (bytes (Text name)) ≡ true
+same_text name = sym (names_agree name name) ∙ same_itself name
+
+none_named : (earlier : List Head) (e : Head) (name : List ℕ) → Has earlier e → e.1 ≡ Text name → list_any (λ x. sound.same_name (bytes x.1) (bytes (Text name))) earlier ≡ true
+none_named earlier e name has is = some_from (λ x. sound.same_name (bytes x.1) (bytes (Text name))) earlier e has (rw is (same_text name))
+
+-- a row that comes after some has none of their names
+follows_none : (earlier : List Head) (rows : List Row) → are_in_order earlier (map (head_at 1) rows) ≡ true → (e : Head) → Has earlier e
+    → (r : Row) → Has rows r → (name : List ℕ) → e.1 ≡ Text name → column r 2 ≡ Text name → ⊥
+unfolding may_follow
+follows_none earlier [] up e has r none name named is = none
+follows_none earlier (x ∷ rows) up e has r (inl same) name named is =
+    let at : column x 2 ≡ Text name = ap (λ (row : Row). column row 2) (sym same) ∙ is in
+    let fresh : not (list_any (λ (y : Head). sound.same_name (bytes y.1) (bytes (column x 2))) earlier) ≡ true = (and_parts _ _ (and_parts _ _ up).0).0 in
+    let here : not (list_any (λ (y : Head). sound.same_name (bytes y.1) (bytes (Text name))) earlier) ≡ true =
+    subst (λ v. not (list_any (λ (y : Head). sound.same_name (bytes y.1) (bytes v)) earlier) ≡ true) at fresh in
+    true≢false (sym here ∙ ap not (none_named earlier e name has named))
+follows_none earlier (x ∷ rows) up e has r (inr more) name named is =
+    follows_none (earlier ++ head_at 1 x ∷ []) rows (and_parts _ _ up).1 e (has_left earlier (head_at 1 x ∷ []) e has) r more name named is
+
+-- so two rows with one name are one row
+one_named : (earlier : List Head) (rows : List Row) → are_in_order earlier (map (head_at 1) rows) ≡ true → (r s : Row) → Has rows r → Has rows s
+    → (name : List ℕ) → column r 2 ≡ Text name → column s 2 ≡ Text name → r ≡ s
+one_named earlier [] up r s none other name a b = absurd none
+one_named earlier (x ∷ rows) up r s (inl p) (inl q) name a b = p ∙ sym q
+one_named earlier (x ∷ rows) up r s (inl p) (inr q) name a b =
+    absurd (follows_none (earlier ++ head_at 1 x ∷ []) rows (and_parts _ _ up).1 (head_at 1 x) (has_right earlier (head_at 1 x ∷ []) (head_at 1 x) (inl refl)) s q name (ap (λ (row : Row). column row 2) (sym p) ∙ a) b)
+one_named earlier (x ∷ rows) up r s (inr p) (inl q) name a b =
+    absurd (follows_none (earlier ++ head_at 1 x ∷ []) rows (and_parts _ _ up).1 (head_at 1 x) (has_right earlier (head_at 1 x ∷ []) (head_at 1 x) (inl refl)) r p name (ap (λ (row : Row). column row 2) (sym q) ∙ b) a)
+one_named earlier (x ∷ rows) up r s (inr p) (inr q) name a b = one_named (earlier ++ head_at 1 x ∷ []) rows (and_parts _ _ up).1 r s p q name a b
+
+-- ---- the rows of a list, and of the same list in order
+
+-- a value that is a word is its text
+text_is : (v : Value) (word : List ℕ) → is_word word v ≡ true → v ≡ Text word
+text_is Null word h = absurd (true≢false (sym h ∙ ap is_eq (value_cmp-apart Null (Text word) (λ e. omega arith))))
+text_is (Int n) word h = absurd (true≢false (sym h ∙ ap is_eq (value_cmp-apart (Int n) (Text word) (λ e. omega arith))))
+text_is (Real x) word h = absurd (true≢false (sym h ∙ ap is_eq (value_cmp-apart (Real x) (Text word) (λ e. omega arith))))
+text_is (Text t) word h = ap Text ((bytes_eq-Decides t word).0 (sym (is_eq-slice_cmp t word) ∙ ap is_eq (sym (value_cmp-Text t word)) ∙ h))
+text_is (Blob b) word h = absurd (true≢false (sym h ∙ ap is_eq (value_cmp-apart (Blob b) (Text word) (λ e. omega arith))))
+
+is_text : (v : Value) (word : List ℕ) → v ≡ Text word → is_word word v ≡ true
+is_text v word is = ap (λ x. is_eq (value_cmp x (Text word))) is ∙ ap is_eq (tied_itself value_cmp_total (Text word))
+
+in_order_all : (P : Row → Type 0) (rows : List Row) → AllByRecursion P rows → AllByRecursion P (in_order rows)
+in_order_all P [] all = tt
+in_order_all P (row ∷ rows) all = all-put_row P row (in_order rows) all.0 (in_order_all P rows all.1)
+
+row_there : (rows : List Row) (k : ℕ) (r : Row) (name : List ℕ) → row_for rows k ≡ r → column r 2 ≡ Text name → Has rows r
+row_there rows k r name is named = go (find (has_rowid (pos (k + 1))) rows) refl
+  where
+    go : (o : Option Row) → find (has_rowid (pos (k + 1))) rows ≡ o → Has rows r
+    go None e = absurd (let gone : [] ≡ r = ap (λ x. unwrap_or x []) (sym e) ∙ is in let h = ap (λ (row : Row). column row 2) gone ∙ named in cc)
+    go (Some x) e =
+        let same : x ≡ r = ap (λ y. unwrap_or y []) (sym e) ∙ is in
+        subst (Has rows) same (has_found (has_rowid (pos (k + 1))) rows x e).0
+
+-- of rows whose name is that of a tree, the first has it
+named_is : (name : List ℕ) (n other : ℕ) (rows : List Row) → n < 65536
+    → ((r : Row) → Has rows r → column r 2 ≡ Text name → rowid r ≡ Int (pos (suc n)))
+    → (r : Row) → Has rows r → column r 2 ≡ Text name → tree_named name other rows ≡ n
+named_is name n other [] low are r none is = absurd none
+named_is name n other (x ∷ rows) low are r has is = elim (cases_Bool (is_word name (column x 2))) [
+  | inl yes_it ↦
+      let id : column x 0 ≡ Int (pos (suc n)) = are x (inl refl) (text_is (column x 2) name yes_it) in
+      ap (λ b. cond b (tree_or other (column x 0)) (tree_named name other rows)) yes_it
+      ∙ ap (tree_or other) id ∙ ap (λ b. cond b n other) (lt-ltb n 65536 low)
+  | inr no_it ↦
+      ap (λ b. cond b (tree_or other (column x 0)) (tree_named name other rows)) no_it
+      ∙ elim has [
+        | inl same ↦ absurd (true≢false (sym (is_text (column x 2) name (ap (λ (row : Row). column row 2) (sym same) ∙ is)) ∙ no_it))
+        | inr more ↦ named_is name n other rows low (λ y h. are y (inr h)) r more is
+      ]
+]
+
+pub low_number : (inner outer : List ℕ) → AreInverse inner outer → (tree : ℕ) → tree < 65536 → number inner tree < 65536
+low_number inner outer h tree low = elim (cases_lt tree (length inner)) [
+  | inl within ↦ omega (arith, h.low tree within, h.few)
+  | inr past ↦ omega (arith, number_past inner tree past)
+]
+
+pub moved_id : (inner : List ℕ) (s : Row) (tree : ℕ) → rowid s ≡ Int (pos (tree + 1)) → rowid (renumbered_row inner s) ≡ Int (pos (suc (number inner tree)))
+moved_id inner [] tree id = absurd (cc)
+moved_id inner (v ∷ more) tree id = ap (renumbered_id inner) id ∙ ap (λ n. Int (shifted inner (pos n))) (add-one tree) ∙ ap (λ n. Int (pos n)) (add-one (number inner tree))
+
+module _ (inner outer : List ℕ) (h : AreInverse inner outer) (rows : List Row) (table : IsShaped Table rows) where
+  abbrev out : List Row
+  out = renumbered_rows outer rows
+
+  pub out_table : IsShaped Table out
+  out_table = renumbered_table outer rows table
+
+  back : renumbered_rows inner out ≡ rows
+  back = rows_back inner outer h rows
+
+  abbrev pub IsMoved : Row → Type 0
+  IsMoved r = (s : Row) × Has out s × (r ≡ renumbered_row inner s)
+
+  moved : (some : List Row) → ((s : Row) → Has some s → Has out s) → AllByRecursion IsMoved (map (renumbered_row inner) some)
+  moved [] within = tt
+  moved (s ∷ some) within = ((s, within s (inl refl), refl), moved some (λ x has. within x (inr has)))
+
+  -- each row is one of the list in order, moved
+  pub from_out : (r : Row) → Has rows r → IsMoved r
+  from_out r has =
+      let sorted : in_order (map (renumbered_row inner) out) ≡ rows = sym (ap (λ b. cond b (in_order (map (renumbered_row inner) out)) out) (test_from_table out out_table)) ∙ back in
+      all_has IsMoved rows r (subst (AllByRecursion IsMoved) sorted (in_order_all IsMoved (map (renumbered_row inner) out) (moved out (λ s x. x)))) has
+
+  -- and each row in order is there, moved
+  pub moved_there : (s : Row) → Has out s → (tree : ℕ) → rowid s ≡ Int (pos (tree + 1)) → (name : List ℕ) → column s 2 ≡ Text name → Has rows (renumbered_row inner s)
+  moved_there s has tree id name named =
+      let at : row_for rows (number inner tree) ≡ renumbered_row inner s =
+      ap (λ l. row_for l (number inner tree)) (sym back)
+      ∙ row_for_renumbered outer inner (other_way inner outer h) out (number inner tree) out_table
+      ∙ ap (λ t. renumbered_row inner (row_for out t)) (number_back inner outer h tree)
+      ∙ ap (renumbered_row inner) (row_found out s tree out_table.0 has id) in
+      row_there rows (number inner tree) (renumbered_row inner s) name at (column_kept inner s 1 ∙ named)
+
+  -- so the tree of an object is found by its name
+  found_by_name : are_in_order [] (map (head_at 1) out) ≡ true → (s : Row) → Has out s → (tree : ℕ) → tree < 65536 → rowid s ≡ Int (pos (tree + 1))
+      → (name : List ℕ) → column s 2 ≡ Text name → (other : ℕ) → tree_named name other rows ≡ number inner tree
+  found_by_name once s has tree low id name named other =
+      let r = renumbered_row inner s in
+      let is_named : column r 2 ≡ Text name = column_kept inner s 1 ∙ named in
+      named_is name (number inner tree) other rows (low_number inner outer h tree low)
+      (λ x there same.
+      let from = from_out x there in
+      let its : column from.0 2 ≡ Text name = sym (column_kept inner from.0 1) ∙ ap (λ (row : Row). column row 2) (sym from.2) ∙ same in
+      let one : from.0 ≡ s = one_named [] out once from.0 s from.1 has name its named in
+      ap rowid (from.2 ∙ ap (renumbered_row inner) one) ∙ moved_id inner s tree id)
+      r (moved_there s has tree id name named) is_named
+
+  -- and a table of a schema that the list in order has
+  pub table_by_name : (schema : Schema) → AreListed out schema → (t : SqlTable) → Has schema.tables t → (other : ℕ) → tree_named t.name other rows ≡ number inner t.tree
+  table_by_name schema are t has other =
+      let found = zipped_left IsTableRow (filter is_table_row out) schema.tables t are.tables has in
+      let d = found.2.described in
+      found_by_name (list_parts out are.loads).1 found.0 (has_filtered is_table_row out found.0 found.1).0 t.tree d.low d.id t.name d.name_is other
+
+-- ---- the tables of trees that agree in those of a house
+
+of_rows : List Row → List Row → List Row → List Row → List Row → List Row → List Row → List Row → List Row → List Row → List Row → List Row → Trees
+of_rows a b c d e f g h i j k l t =
+    cond (eqb t 0) a (cond (eqb t 1) b (cond (eqb t 2) c (cond (eqb t 4) d (cond (eqb t 6) e (cond (eqb t 8) f
+    (cond (eqb t 10) g (cond (eqb t 12) h (cond (eqb t 14) i (cond (eqb t 23) j (cond (eqb t 24) k (cond (eqb t 25) l [])))))))))))
+
+same_tables : (x y : Trees) → x 0 ≡ y 0 → x 1 ≡ y 1 → x 2 ≡ y 2 → x 4 ≡ y 4 → x 6 ≡ y 6 → x 8 ≡ y 8 → x 10 ≡ y 10 → x 12 ≡ y 12 → x 14 ≡ y 14
+    → x 23 ≡ y 23 → x 24 ≡ y 24 → x 25 ≡ y 25 → tables_in x ≡ tables_in y
+unfolding tables_in settings_in house_row_in of_rows
+same_tables x y a b c d e f g h j k l m = λ i. tables_in (of_rows (a i) (b i) (c i) (d i) (e i) (f i) (g i) (h i) (j i) (k i) (l i) (m i))
+
+-- a house that is shown in its order has the tables that its names find
+pub found_tables : (below db : Trees) → IsShaped Table (below catalog_tree) → (order : IsReordered below db) → AreListed (db catalog_tree) house_schema
+    → tables_in db ≡ tables_held below
+unfolding house_names
+found_tables below db table order are =
+    let rows = below catalog_tree in
+    let shown = order.shown in
+    let listed : AreListed (renumbered_rows order.outer rows) house_schema = subst (λ (d : Trees). AreListed (d catalog_tree) house_schema) shown are in
+    let at = table_by_name order.inner order.outer order.inverse rows table house_schema listed in
+    ap tables_in shown ∙ same_tables (renumbered_trees order.inner order.outer below) (by_names house_names below)
+    (ap below (sym (at house_table (inl refl) 0)))
+    (ap below (sym (at band_table (inr (inl refl)) 1)))
+    (ap below (sym (at member_table (inr (inr (inl refl))) 2)))
+    (ap below (sym (at category_table (inr (inr (inr (inl refl)))) 4)))
+    (ap below (sym (at item_table (inr (inr (inr (inr (inl refl))))) 6)))
+    (ap below (sym (at bid_table (inr (inr (inr (inr (inr (inl refl)))))) 8)))
+    (ap below (sym (at watch_table (inr (inr (inr (inr (inr (inr (inl refl))))))) 10)))
+    (ap below (sym (at question_table (inr (inr (inr (inr (inr (inr (inr (inl refl)))))))) 12)))
+    (ap below (sym (at feedback_table (inr (inr (inr (inr (inr (inr (inr (inr (inl refl))))))))) 14)))
+    (ap below (sym (at reserve_table (inr (inr (inr (inr (inr (inr (inr (inr (inr (inl refl)))))))))) 23)))
+    (ap below (sym (at edition_table (inr (inr (inr (inr (inr (inr (inr (inr (inr (inr (inl refl))))))))))) 24)))
+    (ap below (sym (at later_band_table (inr (inr (inr (inr (inr (inr (inr (inr (inr (inr (inr (inl refl)))))))))))) 25)))
