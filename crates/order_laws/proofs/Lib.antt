@@ -1,0 +1,3 @@
+pub mod DefinedLemmas
+pub mod MovedLemmas
+pub mod TransferLemmas
