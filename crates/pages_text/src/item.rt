@@ -10,6 +10,7 @@ ghost use Rattle.pages_text.specs.Trees.{item_first, item_last, item_middle, ite
 use cents::Cents;
 use house_rows::{Editions, Item, ItemShown, State, Terms};
 use pages_json::{Field, Shows, end_object, key, put_member};
+use proxy::floor_of;
 use std::alloc::{AllocError, Global};
 use steps::Bands;
 
@@ -20,10 +21,7 @@ pub fn floor(bands: &Bands, terms: &Terms) -> Option<u64>
     if terms.state != State::Open {
         return None;
     }
-    if terms.count == 0 {
-        return Some(terms.start.value());
-    }
-    Some(bands.over(terms.price))
+    Some(floor_of(bands, terms.start, terms.price, terms.count))
 }
 
 // The keys of an item with the edition and the floor that are shown of it, and what they have.

@@ -17,4 +17,4 @@ pub use laws::{
     accepted_bids_leave_standings, accepted_bids_rise, leader_ranks_first, price_is_between,
     price_never_falls, raise_keeps, reserves_hold, surplus_is_invisible, worked_rows,
 };
-pub use standing::{MOST_BIDS, Standing};
+pub use standing::{MOST_BIDS, Standing, floor_of};

@@ -1,10 +1,11 @@
 //! The standing of one item, kept from bid to bid.
-ghost use Rattle.std.specs.Prelude.{◌≡◌, ◌≤◌, ◌<◌, ℕ, List, [], length, IfSome, is_some, OnOk, OnErr, MatchResult};
+ghost use Rattle.std.specs.Prelude.{if◌then◌else◌, ◌≡◌, ◌==◌, ◌≤◌, ◌<◌, ℕ, List, [], length, IfSome, is_some, OnOk, OnErr, MatchResult};
 ghost use Rattle.proxy.specs.declared.bid.Bid.{Bid as TheBid};
 ghost use Rattle.proxy.specs.Bids.{floor, met_by, one_more, price_by_bids, refusal, standing_of, with_reserve};
 ghost use Rattle.proxy.specs.Kept.{opening_of};
 ghost use Rattle.proxy.specs.Led.{kept_led};
 ghost use Rattle.proxy.specs.Rows.{is_shape};
+ghost use Rattle.steps.specs.Table.{over};
 
 use crate::bid::{Bid, BidRefusal};
 use crate::scans::{greatest_with, leading, other_greatest};
@@ -55,6 +56,18 @@ fn over_reserve(reserve: &Option<Cents>, top: Cents, by_bids: Cents) -> Cents
     match reserve {
         Some(reserve) if *reserve <= top => by_bids.max(*reserve),
         _ => by_bids,
+    }
+}
+
+/// The least maximum that is taken of a bidder who doesn't lead, in cents: the start of an item
+/// without bids, and else one step over its price.
+pub fn floor_of(bands: &Bands, start: Cents, price: Cents, count: u32) -> u64
+    ensures { result ≡ (if count == 0 then start else over bands.now price) }
+{
+    if count == 0 {
+        start.value()
+    } else {
+        bands.over(price)
     }
 }
 
@@ -206,11 +219,7 @@ impl Standing {
         ensures { (bids : List TheBid) → self.now ≡ standing_of bands.now (opening_of self.now) bids
             → result ≡ floor bands.now (opening_of self.now) bids }
     {
-        if self.count == 0 {
-            self.start.value()
-        } else {
-            bands.over(self.price)
-        }
+        floor_of(bands, self.start, self.price, self.count)
     }
 
     /// Places a bid. A refused one changes nothing.
