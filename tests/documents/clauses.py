@@ -51,10 +51,11 @@ def crates():
 
 
 def exported(crate):
-    """The names that a crate's root hands out; of a program none."""
+    """The names that a crate's root hands out, and those that it declares; of a program none."""
     root = ROOT / "crates" / crate / "src" / "lib.rt"
-    lists = re.findall(r"^pub use [\w:]*::(\w+|\{[^;]*\});", root.read_text(), re.M) if root.exists() else []
-    return set(re.findall(r"\w+", " ".join(lists)))
+    text = root.read_text() if root.exists() else ""
+    lists = re.findall(r"^pub use [\w:]*::(\w+|\{[^;]*\});", text, re.M)
+    return set(re.findall(r"\w+", " ".join(lists))) | set(re.findall(r"^pub (?:fn|struct|enum|trait) (\w+)", text, re.M))
 
 
 def owner_of(line):
