@@ -3,16 +3,14 @@ ghost use Rattle.std.specs.Prelude.{◌≡◌, ◌≢◌, ◌↔◌, ◌⊎◌, 
 ghost use Rattle.sqlite.specs.Held.{state};
 ghost use Rattle.sqlite.specs.State.{HasCleanDisk};
 ghost use Rattle.sqlite_trees.specs.View.{IsClean};
-ghost use Rattle.house_rows.specs.Tables.{Tables, band_tables, tables_of};
+ghost use Rattle.house_rows.specs.Tables.{Tables, tables_of};
 ghost use Rattle.house_rows.specs.Text.{is_plain};
 ghost use Rattle.house_rows.specs.declared.fault.KeepFault.TheVariants.{Damaged, Store};
-ghost use Rattle.house_rows.specs.Fits.{IsMoment};
-ghost use Rattle.house_rows.specs.Found.{counts_of};
 ghost use Rattle.store_rows.specs.Fitting.{HouseRowFits};
 ghost use Rattle.store_rows.specs.Schema.{no_schema};
-ghost use Rattle.store_rows.specs.Rows.{reserves_in};
-ghost use Rattle.store_rows.specs.Tables.{IsAtRest, house_row_in, tables_in};
+ghost use Rattle.store_rows.specs.Tables.{house_row_in, tables_in};
 ghost use Rattle.store_house.specs.Opening.{AreNumbered, AreSet, Follows, FollowsOrGrows, IsBackOrNew, IsSoundFirst, IsSoundHouse, Upgrades, first_tables_in};
+ghost use Rattle.store_open.specs.Opened.{IsOpenedHouse};
 ghost use Rattle.store.specs.Kept.{IsHonest, MayLeave, content};
 ghost use Rattle.store.specs.Opening.{Leaves, LeavesMade, LeavesStore, LeavesUpgraded};
 
@@ -217,20 +215,9 @@ impl<S: Alter + Drop> SqlKeep<S> {
         }
     }
 
-    // The keep of a house that was opened.
-    fn of_house(alloc: Global, house: Opened<S>) -> SqlKeep<S>
-        requires idle { house.conn.in_transaction ≡ false }
-        requires moment { IsMoment house.clock }
-        requires rests { HasCleanDisk (state S.Store house.conn)
-            → IsAtRest (state S.Store house.conn) }
-        requires editions { HasCleanDisk (state S.Store house.conn)
-            → band_tables (tables_in (state S.Store house.conn).now.trees) ≡ house.editions }
-        requires reserves { HasCleanDisk (state S.Store house.conn)
-            → house.reserves ≡ reserves_in (state S.Store house.conn).now.trees }
-        requires counts { HasCleanDisk (state S.Store house.conn)
-            → counts_of (tables_in (state S.Store house.conn).now.trees) ≡ house.counts }
-        requires clock { HasCleanDisk (state S.Store house.conn)
-            → (tables_in (state S.Store house.conn).now.trees).clock ≡ house.clock }
+    /// The keep of a house that was opened.
+    pub fn of_house(alloc: Global, house: Opened<S>) -> SqlKeep<S>
+        requires { IsOpenedHouse S.Store house }
         ensures conn { result.conn ≡ house.conn }
         ensures works { result.failed ≡ false }
     {

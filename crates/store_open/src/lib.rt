@@ -24,5 +24,5 @@ mod upgrade;
 pub use editions::table_of;
 pub use house::Opened;
 pub use new_bands::set_bands;
-pub use open::open_house;
+pub use open::{open_house, opened_house};
 pub use upgrade::upgrade_house;

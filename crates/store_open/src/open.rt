@@ -1,20 +1,15 @@
 //! A house is opened: whatever a connection holds is tested until it is a house.
-ghost use Rattle.std.specs.Prelude.{◌≡◌, ◌≤◌, false, map, IfErr, IfOk, IsErrOf};
+ghost use Rattle.std.specs.Prelude.{◌≡◌, ◌≤◌, false, map, IfErr, IfOk, IsErrOf, IsTrue};
 ghost use Rattle.sqlite.specs.Held.{state};
 ghost use Rattle.sqlite.specs.State.{HasCleanDisk};
-ghost use Rattle.sqlite_trees.specs.Tree.{Trees};
 ghost use Rattle.sqlite_trees.specs.View.{IsClean};
 ghost use Rattle.house_rows.specs.Fits.{IsMoment};
-ghost use Rattle.house_rows.specs.Found.{counts_of};
-ghost use Rattle.house_rows.specs.Tables.{band_tables};
 ghost use Rattle.house_rows.specs.declared.fault.KeepFault.TheVariants.{Damaged};
 ghost use Rattle.steps.specs.Table.{IsBandTable};
-ghost use Rattle.store_rows.specs.Fitting.{HouseRowFits};
-ghost use Rattle.store_rows.specs.House.{Serves};
-ghost use Rattle.store_rows.specs.Rows.{reserves_in};
-ghost use Rattle.store_rows.specs.Tables.{IsAtRest, house_row_in, tables_in};
-ghost use Rattle.store_house.specs.Opening.{AreNumbered, AreSet, Follows, HasRead, HasSettings, IsReadable, IsSetUp, IsSoundHouse};
+ghost use Rattle.store_rows.specs.House.{IsHouse, Serves};
+ghost use Rattle.store_house.specs.Opening.{Follows, HasRead, HasSettings, IsReadable, IsSetUp, IsSoundHouse};
 ghost use Rattle.store_rows.specs.Frames.{Finds};
+ghost use Rattle.store_open.specs.Opened.{IsOpenedHouse};
 
 use crate::editions::{read_editions, table_of};
 use crate::house::Opened;
@@ -106,46 +101,31 @@ pub(crate) fn read_house<S: Alter>(
     Ok((editions, clock, counts, reserves))
 }
 
-/// Opens the house that a connection holds. What it has not committed is undone.
+/// The house of a connection that holds the tables of one, all committed, with what is read of it.
 ///
-/// `Damaged` where it holds no house of version 2: other tables than those of a house, a row of the
-/// house or bands that don't fit, a member, a category or an item with a number that is 0 or over how
-/// many there are, a reserve that doesn't fit or whose item's number is over how many items there are,
-/// editions of the band table that don't fit, that are not numbered in turn from 2 to 100 at most or
-/// whose bands are no table, or bands of another edition. After an error the store is given back as it
-/// was: nothing was written.
-pub fn open_house<S: Alter + Drop>(
+/// `Damaged` where a row of the house or bands don't fit, a member, a category or an item has a number
+/// that is 0 or over how many there are, a reserve doesn't fit or its item's number is over how many
+/// items there are, editions of the band table don't fit, are not numbered in turn from 2 to 100 at most
+/// or have bands that are no table, or bands are of another edition. After an error the store is given
+/// back as it was: nothing was written.
+pub fn opened_house<S: Alter + Drop>(
     alloc: Global,
     conn: Connection<S>,
 ) -> Result<Opened<S>, (KeepFault, S)>
-    ensures rests { IfOk result (λ o. HasCleanDisk (state S.Store o.conn)
-        → IsAtRest (state S.Store o.conn)) }
-    ensures editions { IfOk result (λ o. HasCleanDisk (state S.Store o.conn)
-        → band_tables (tables_in (state S.Store o.conn).now.trees) ≡ o.editions) }
-    ensures counts { IfOk result (λ o. HasCleanDisk (state S.Store o.conn)
-        → counts_of (tables_in (state S.Store o.conn).now.trees) ≡ o.counts) }
-    ensures reserves { IfOk result (λ o. HasCleanDisk (state S.Store o.conn)
-        → o.reserves ≡ reserves_in (state S.Store o.conn).now.trees) }
-    ensures numbered { IfOk result (λ o. HasCleanDisk (state S.Store o.conn)
-        → AreNumbered (state S.Store o.conn).now.trees) }
-    ensures set { IfOk result (λ o. HasCleanDisk (state S.Store o.conn)
-        → AreSet (state S.Store o.conn).now.trees) }
-    ensures clock { IfOk result (λ o. HasCleanDisk (state S.Store o.conn)
-        → (tables_in (state S.Store o.conn).now.trees).clock ≡ o.clock) }
-    ensures moment { IfOk result (λ o. IsMoment o.clock) }
-    ensures row { IfOk result (λ o. HasCleanDisk (state S.Store o.conn)
-        → HouseRowFits (house_row_in (state S.Store o.conn).now.trees)) }
-    ensures only { IfOk result (λ o. HasCleanDisk (state S.Store o.conn) → (db : Trees)
-        → (state S.Store o.conn).may_leave db → db ≡ (state S.Store o.conn).now.trees) }
-    ensures mode { IfOk result (λ o. o.conn.in_transaction ≡ false) }
+    requires house { HasCleanDisk (state S.Store conn)
+        → IsTrue (state S.Store conn).is_open × IsHouse (state S.Store conn).now }
+    requires rests { HasCleanDisk (state S.Store conn)
+        → (state S.Store conn).now ≡ (state S.Store conn).committed }
+    requires mode { conn.in_transaction ≡ false }
+    ensures opened { IfOk result (IsOpenedHouse S.Store) }
     ensures same { IfOk result (λ o. HasCleanDisk (state S.Store o.conn)
-        → (state S.Store o.conn).now.trees ≡ (state S.Store conn).committed.trees) }
+        → (state S.Store o.conn).now.trees ≡ (state S.Store conn).now.trees) }
     ensures follows { IfOk result (λ o. Follows S.Store conn o.conn.store) }
     ensures left { IfErr result (λ e. Follows S.Store conn e.1) }
     ensures damaged { IfErr result (λ e. e.0 ≡ Damaged → IsClean (S.Store.view e.1)
-        → ¬ (IsSoundHouse (state S.Store conn).committed)) }
+        → ¬ (IsReadable (state S.Store conn).now.trees)) }
 {
-    let mut conn = house_anew(alloc, conn)?;
+    let mut conn = conn;
     match read_house(alloc, &mut conn) {
         Ok((editions, clock, counts, reserves)) => Ok(Opened {
             conn,
@@ -156,4 +136,25 @@ pub fn open_house<S: Alter + Drop>(
         }),
         Err(fault) => Err((fault, conn.into_store())),
     }
+}
+
+/// Opens the house that a connection holds. What it has not committed is undone.
+///
+/// `Damaged` where it holds other tables than those of a house of version 2, or where `opened_house`
+/// is. After an error the store is given back as it was: nothing was written.
+pub fn open_house<S: Alter + Drop>(
+    alloc: Global,
+    conn: Connection<S>,
+) -> Result<Opened<S>, (KeepFault, S)>
+    ensures opened { IfOk result (IsOpenedHouse S.Store) }
+    ensures same { IfOk result (λ o. HasCleanDisk (state S.Store o.conn)
+        → (state S.Store o.conn).now.trees ≡ (state S.Store conn).committed.trees) }
+    ensures follows { IfOk result (λ o. Follows S.Store conn o.conn.store) }
+    ensures left { IfErr result (λ e. Follows S.Store conn e.1) }
+    ensures damaged { IfErr result (λ e. e.0 ≡ Damaged → IsClean (S.Store.view e.1)
+        → ¬ (IsSoundHouse (state S.Store conn).committed)) }
+{
+    let whole = house_anew(alloc, conn)?;
+    let opened = opened_house(alloc, whole)?;
+    Ok(opened)
 }

@@ -5,18 +5,14 @@
 ghost use Rattle.std.specs.Prelude.{◌≡◌, ◌≢◌, true, false, Some, IfErr, IfOk, OnErr, OnOk, IsErrOf, IsTrue};
 ghost use Rattle.sqlite.specs.Held.{state};
 ghost use Rattle.sqlite.specs.State.{HasCleanDisk, KeepsCommit, Shows, Survives};
-ghost use Rattle.sqlite_trees.specs.Tree.{Trees};
 ghost use Rattle.sqlite_trees.specs.View.{IsClean};
 ghost use Rattle.house_rows.specs.Fits.{IsMoment};
-ghost use Rattle.house_rows.specs.Found.{counts_of};
-ghost use Rattle.house_rows.specs.Tables.{band_tables};
 ghost use Rattle.house_rows.specs.declared.fault.KeepFault.TheVariants.{Damaged, Store};
-ghost use Rattle.store_rows.specs.Fitting.{HouseRowFits};
 ghost use Rattle.store_rows.specs.House.{IsFirstHouse, IsInside, Serves};
 ghost use Rattle.store_rows.specs.Frames.{Finds};
-ghost use Rattle.store_rows.specs.Rows.{reserves_in};
-ghost use Rattle.store_rows.specs.Tables.{IsAtRest, house_row_in, tables_in};
-ghost use Rattle.store_house.specs.Opening.{AreNumbered, AreSet, Follows, FollowsOrGrows, HasEditions, HasReserves, HasSettings, HaveNumbers, IsFirstSetUp, IsSoundFirst, IsSoundHouse, Upgraded, Upgrades, first_tables_in, version_in};
+ghost use Rattle.store_rows.specs.Tables.{tables_in};
+ghost use Rattle.store_open.specs.Opened.{IsOpenedHouse};
+ghost use Rattle.store_house.specs.Opening.{AreNumbered, Follows, FollowsOrGrows, HasEditions, HasReserves, HasSettings, HaveNumbers, IsFirstSetUp, IsSoundFirst, IsSoundHouse, Upgraded, Upgrades, first_tables_in, version_in};
 
 use crate::house::Opened;
 use crate::open::{open_house, read_house};
@@ -133,26 +129,7 @@ fn upgrade_first<S: Alter + Drop>(
         → IsTrue (state S.Store conn).is_open × IsFirstHouse (state S.Store conn).now }
     requires rests { HasCleanDisk (state S.Store conn)
         → (state S.Store conn).now ≡ (state S.Store conn).committed }
-    ensures rests { IfOk result (λ o. HasCleanDisk (state S.Store o.conn)
-        → IsAtRest (state S.Store o.conn)) }
-    ensures editions { IfOk result (λ o. HasCleanDisk (state S.Store o.conn)
-        → band_tables (tables_in (state S.Store o.conn).now.trees) ≡ o.editions) }
-    ensures counts { IfOk result (λ o. HasCleanDisk (state S.Store o.conn)
-        → counts_of (tables_in (state S.Store o.conn).now.trees) ≡ o.counts) }
-    ensures reserves { IfOk result (λ o. HasCleanDisk (state S.Store o.conn)
-        → o.reserves ≡ reserves_in (state S.Store o.conn).now.trees) }
-    ensures numbered { IfOk result (λ o. HasCleanDisk (state S.Store o.conn)
-        → AreNumbered (state S.Store o.conn).now.trees) }
-    ensures set { IfOk result (λ o. HasCleanDisk (state S.Store o.conn)
-        → AreSet (state S.Store o.conn).now.trees) }
-    ensures clock { IfOk result (λ o. HasCleanDisk (state S.Store o.conn)
-        → (tables_in (state S.Store o.conn).now.trees).clock ≡ o.clock) }
-    ensures moment { IfOk result (λ o. IsMoment o.clock) }
-    ensures row { IfOk result (λ o. HasCleanDisk (state S.Store o.conn)
-        → HouseRowFits (house_row_in (state S.Store o.conn).now.trees)) }
-    ensures only { IfOk result (λ o. HasCleanDisk (state S.Store o.conn) → (db : Trees)
-        → (state S.Store o.conn).may_leave db → db ≡ (state S.Store o.conn).now.trees) }
-    ensures mode { IfOk result (λ o. o.conn.in_transaction ≡ false) }
+    ensures opened { IfOk result (IsOpenedHouse S.Store) }
     ensures upgraded { IfOk result (λ o. HasCleanDisk (state S.Store o.conn)
         → Upgrades (state S.Store conn).now.trees (state S.Store o.conn).now) }
     ensures clean { IfOk result (λ o. HasCleanDisk (state S.Store o.conn)
@@ -191,26 +168,7 @@ pub fn upgrade_house<S: Alter + Drop>(
     alloc: Global,
     conn: Connection<S>,
 ) -> Result<(Opened<S>, bool), (KeepFault, S)>
-    ensures rests { IfOk result (λ r. HasCleanDisk (state S.Store r.0.conn)
-        → IsAtRest (state S.Store r.0.conn)) }
-    ensures editions { IfOk result (λ r. HasCleanDisk (state S.Store r.0.conn)
-        → band_tables (tables_in (state S.Store r.0.conn).now.trees) ≡ r.0.editions) }
-    ensures counts { IfOk result (λ r. HasCleanDisk (state S.Store r.0.conn)
-        → counts_of (tables_in (state S.Store r.0.conn).now.trees) ≡ r.0.counts) }
-    ensures reserves { IfOk result (λ r. HasCleanDisk (state S.Store r.0.conn)
-        → r.0.reserves ≡ reserves_in (state S.Store r.0.conn).now.trees) }
-    ensures numbered { IfOk result (λ r. HasCleanDisk (state S.Store r.0.conn)
-        → AreNumbered (state S.Store r.0.conn).now.trees) }
-    ensures set { IfOk result (λ r. HasCleanDisk (state S.Store r.0.conn)
-        → AreSet (state S.Store r.0.conn).now.trees) }
-    ensures clock { IfOk result (λ r. HasCleanDisk (state S.Store r.0.conn)
-        → (tables_in (state S.Store r.0.conn).now.trees).clock ≡ r.0.clock) }
-    ensures moment { IfOk result (λ r. IsMoment r.0.clock) }
-    ensures row { IfOk result (λ r. HasCleanDisk (state S.Store r.0.conn)
-        → HouseRowFits (house_row_in (state S.Store r.0.conn).now.trees)) }
-    ensures only { IfOk result (λ r. HasCleanDisk (state S.Store r.0.conn) → (db : Trees)
-        → (state S.Store r.0.conn).may_leave db → db ≡ (state S.Store r.0.conn).now.trees) }
-    ensures mode { IfOk result (λ r. r.0.conn.in_transaction ≡ false) }
+    ensures opened { IfOk result (λ r. IsOpenedHouse S.Store r.0) }
     ensures same { IfOk result (λ r. HasCleanDisk (state S.Store r.0.conn)
         → r.1 ≡ true
         → tables_in (state S.Store r.0.conn).now.trees

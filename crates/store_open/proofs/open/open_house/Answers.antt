@@ -1,67 +1,48 @@
-use Rattle.std.proofs.Common.{◌∙◌, ap, subst, sym, arith, inl, rules}
+use Rattle.std.proofs.Common.{◌≡◌, ◌∙◌, ap, subst, sym, arith}
 use Rattle.std.proofs.lemmas.Result.{err_from_is_err_and}
 use Rattle.sqlite.specs.Effect.{Database}
-use Rattle.sqlite.specs.Held.{state}
+use Rattle.sqlite.specs.Held.{Held, state}
 use Rattle.sqlite.specs.State.{HasCleanDisk}
+use Rattle.sqlite_trees.specs.declared.store.Store.{Ghosts}
 use Rattle.store_house.specs.Opening.{IsReadable}
-use Rattle.store_house.proofs.OpenLemmas.{gives_back, leads_made, leads_on}
-use Rattle.store_open.proofs.ReadLemmas.{WasRead, was_read}
+use Rattle.store_open.proofs.UpgradeLemmas.{follows_twice}
 use Rattle.store_open.proofs.open.open_house.Goals as goal
 
-pub returns-in-Ok : goal.returns-in-Ok
-returns-in-Ok g c =
-    let was = state g.S.Store c.in_ok-conn.conn in
-    let is = state g.S.Store c.read_house.new.conn in
-    let read = c.in-Ok.ensures in
-    let first : HasCleanDisk is → HasCleanDisk was = λ clean. omega (arith, c.read_house.ensures.finds.read.crash.clean, clean) in
-    let found : HasCleanDisk is → WasRead was is c.in-Ok.editions c.in-Ok.clock c.in-Ok.counts c.in-Ok.reserves = λ clean.
-    was_read was is _ _ _ _ (c.in_ok-conn.ensures.house (first clean)) (c.in_ok-conn.ensures.rests (first clean))
-    (read.finds.read.same clean) (read.finds.value clean) in
-    let made = c.in_ok-conn in
-    let leads = leads_on g.S.Store c.args.conn made.conn c.read_house.new.conn (leads_made g.S.Store c.args.conn made.conn made.ensures.follows made.ensures.rests)
-    c.read_house.ensures.finds.read.crash (λ clean. inl (read.finds.read.same clean)) in
-    record {
-      rests = λ clean. (found clean).rests;
-      editions = λ clean. (found clean).editions_are;
-      counts = λ clean. (found clean).counts_are;
-      reserves = λ clean. (found clean).reserves_are;
-      numbered = λ clean. (found clean).numbered;
-      set = λ clean. (found clean).set;
-      clock = λ clean. (found clean).clock_is;
-      moment = read.moment;
-      row = λ clean. (found clean).row;
-      only = λ clean db left. g.met.S.Store.settled c.read_house.new.conn.store db (found clean).rests.is_open left ∙ ap (λ (d : Database). d.trees) (found clean).committed;
-      mode = search rules;
-      same = λ clean. ap (λ (d : Database). d.trees) (found clean).same ∙ c.in_ok-conn.ensures.same (first clean);
-      follows = record {
-        clean = leads.clean;
-        shield = leads.shield;
-        shown = λ clean is_open. ap (λ (d : Database). d.trees) (found clean).same ∙ c.in_ok-conn.ensures.same (first clean);
-        crash = leads.crash;
-      };
-      left = search rules;
-      damaged = search rules;
-    }
+-- what a connection that was made anew shows is committed, and what was committed before
+committed : {S : Type 0} (g : Ghosts S) (conn again : Held S) → (HasCleanDisk (state g again) → (state g again).now ≡ (state g again).committed)
+    → (HasCleanDisk (state g again) → (state g again).now.trees ≡ (state g conn).committed.trees)
+    → HasCleanDisk (state g again) → (state g again).committed.trees ≡ (state g conn).committed.trees
+committed g conn again rests same clean = sym (ap (λ (d : Database). d.trees) (rests clean)) ∙ same clean
+
+pub returns-clause-same : goal.returns-clause-same
+returns-clause-same g c clean =
+    let first : HasCleanDisk (state g.S.Store c.in_ok-whole.whole) = omega (arith, c.in_ok-opened.ensures.follows.clean, clean) in
+    c.in_ok-opened.ensures.same clean ∙ c.in_ok-whole.ensures.same first
+
+pub returns-clause-follows : goal.returns-clause-follows
+returns-clause-follows g c =
+    let again = c.in_ok-whole in
+    follows_twice g.S.Store c.args.conn again.whole _ again.ensures.follows (committed g.S.Store c.args.conn again.whole again.ensures.rests again.ensures.same)
+    c.in_ok-opened.ensures.follows
 
 -- an error gives the store back
 
-pub returns-in_err-conn-clause-damaged : goal.returns-in_err-conn-clause-damaged
-returns-in_err-conn-clause-damaged g c =
+pub returns-in_err-whole-clause-damaged : goal.returns-in_err-whole-clause-damaged
+returns-in_err-whole-clause-damaged g c =
     let p = err_from_is_err_and c.from_residual.result c.from_residual.ensures.1 in
-    rw (p.1, p.2) (λ is clean sound. c.in_err-conn.ensures.damaged is clean sound.house)
+    rw (p.1, p.2) (λ is clean sound. c.in_err-whole.ensures.damaged is clean sound.house)
 
-pub returns-in-Err-clause-left : goal.returns-in-Err-clause-left
-returns-in-Err-clause-left g c =
-    let made = c.in_ok-conn in
-    let read = c.read_house.ensures.finds.read in
-    let left = c.into_store in
-    gives_back g.S.Store c.args.conn c.read_house.new.conn left.result
-    (leads_on g.S.Store c.args.conn made.conn c.read_house.new.conn (leads_made g.S.Store c.args.conn made.conn made.ensures.follows made.ensures.rests) read.crash (λ clean. c.in-Err.ensures.finds.read.err clean))
-    left.ensures.undone left.ensures.quiet
+pub returns-in_err-opened-clause-left : goal.returns-in_err-opened-clause-left
+returns-in_err-opened-clause-left g c =
+    let again = c.in_ok-whole in
+    let p = err_from_is_err_and c.from_residual-in_err-opened.result c.from_residual-in_err-opened.ensures.1 in
+    let follows = follows_twice g.S.Store c.args.conn again.whole _ again.ensures.follows (committed g.S.Store c.args.conn again.whole again.ensures.rests again.ensures.same)
+    c.in_err-opened.ensures.left in
+    rw (p.1, p.2) follows
 
-pub returns-in-Err-clause-damaged : goal.returns-in-Err-clause-damaged
-returns-in-Err-clause-damaged g c is clean sound =
-    let second : HasCleanDisk (state g.S.Store c.read_house.new.conn) = omega (arith, c.into_store.ensures.quiet.clean, clean) in
-    let first : HasCleanDisk (state g.S.Store c.in_ok-conn.conn) = omega (arith, c.read_house.ensures.finds.read.crash.clean, second) in
-    let same = sym (c.in_ok-conn.ensures.same first) in
-    c.read_house.ensures.finds.damaged second (subst IsReadable same sound.readable) (search rules)
+pub returns-in_err-opened-clause-damaged : goal.returns-in_err-opened-clause-damaged
+returns-in_err-opened-clause-damaged g c =
+    let p = err_from_is_err_and c.from_residual-in_err-opened.result c.from_residual-in_err-opened.ensures.1 in
+    rw (p.1, p.2) (λ is clean sound.
+    let early : HasCleanDisk (state g.S.Store c.in_ok-whole.whole) = omega (arith, c.in_err-opened.ensures.left.clean, clean) in
+    c.in_err-opened.ensures.damaged is clean (subst IsReadable (sym (c.in_ok-whole.ensures.same early)) sound.readable))

@@ -17,17 +17,19 @@ returns-in-Ok g c =
     let found : HasCleanDisk last → WasRead last last c.in-Ok.editions c.in-Ok.clock c.in-Ok.counts c.in-Ok.reserves = λ clean.
     was_read last last _ _ _ _ ((read.rests clean).0, (read.upgraded clean).house) (read.rests clean).1 (unchanged last (read.rests clean).0) (record { has_settings = read.settings clean; has_editions = read.editions clean; have_numbers = read.counts clean; has_reserves = read.reserves clean }) in
     record {
-      rests = λ clean. (found clean).rests;
-      editions = λ clean. (found clean).editions_are;
-      counts = λ clean. (found clean).counts_are;
-      reserves = λ clean. (found clean).reserves_are;
-      numbered = λ clean. (found clean).numbered;
-      set = λ clean. (found clean).set;
-      clock = λ clean. (found clean).clock_is;
-      moment = read.moment;
-      row = λ clean. (found clean).row;
-      only = λ clean db left. g.met.S.Store.settled c.upgrade_read.new.conn.store db (read.rests clean).0 left ∙ ap (λ (d : Database). d.trees) (sym (read.rests clean).1);
-      mode = read.mode;
+      opened = record {
+        rests = λ clean. (found clean).rests;
+        editions = λ clean. (found clean).editions_are;
+        counts = λ clean. (found clean).counts_are;
+        reserves = λ clean. (found clean).reserves_are;
+        numbered = λ clean. (found clean).numbered;
+        set = λ clean. (found clean).set;
+        clock = λ clean. (found clean).clock_is;
+        moment = read.moment;
+        row = λ clean. (found clean).row;
+        only = λ clean db left. g.met.S.Store.settled c.upgrade_read.new.conn.store db (read.rests clean).0 left ∙ ap (λ (d : Database). d.trees) (sym (read.rests clean).1);
+        mode = read.mode;
+      };
       upgraded = read.upgraded;
       clean = λ clean. omega (arith, c.upgrade_read.ensures.crash.clean, clean);
       left = search rules;

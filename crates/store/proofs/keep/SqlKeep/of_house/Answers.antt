@@ -3,7 +3,7 @@ use Rattle.store.proofs.keep.SqlKeep.of_house.Goals as goal
 
 pub invariant_of-result : goal.invariant_of-result
 invariant_of-result g c = record {
-  idle = c.requires.idle;
+  idle = c.requires.mode;
   moment = c.requires.moment;
   rests = λ going honest. c.requires.rests honest;
   known = λ going honest. known_read _ _ _ _ _ (c.requires.editions honest) (c.requires.reserves honest) (c.requires.counts honest) (c.requires.clock honest);
