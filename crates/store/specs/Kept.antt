@@ -4,7 +4,7 @@ use Rattle.std.specs.Coded.{Coded, code_by, coded×, coded_ℕ, coded_bool, code
 use Rattle.sqlite_trees.specs.declared.store.Store.{Ghosts}
 use Rattle.sqlite_trees.specs.Tree.{Trees}
 use Rattle.sqlite.specs.Held.{Held, held_code, state}
-use Rattle.sqlite.specs.State.{HasCleanDisk}
+use Rattle.sqlite.specs.State.{HasCleanDisk, State}
 use Rattle.house_rows.specs.Fits.{IsMoment}
 use Rattle.house_rows.specs.Found.{counts_of}
 use Rattle.house_rows.specs.Editions.{BandTables}
@@ -13,7 +13,9 @@ use Rattle.house_rows.specs.declared.people.Counts.{Counts}
 use Rattle.house_rows.specs.declared.edition.Edition.{Edition}
 use Rattle.house_rows.specs.declared.settings.Settings.{Settings}
 use Rattle.store_rows.specs.declared.reserve.ReserveRow.{ReserveRow}
+use Rattle.store_rows.specs.House.{IsHouse}
 use Rattle.store_rows.specs.Rows.{reserves_in}
+use Rattle.store_rows.specs.Schema.{house_schema}
 use Rattle.store_rows.specs.Tables.{IsAtRest, tables_in}
 
 -- the connection, and what is known of its tables without asking it
@@ -78,12 +80,19 @@ pub record IsKnown (editions : BandTables) (reserves : List ReserveRow) (counts 
   pub counts_are : counts_of (tables_in db) ≡ counts
   pub clock_is : (tables_in db).clock ≡ clock
 
--- no transaction is open; and until it failed, a house is committed, as far as the disk was honest
+-- what a crash may leave is a house, as far as the disk was honest
+abbrev pub LeavesHouses : State → Type 0
+LeavesHouses s = HasCleanDisk s → (db : Trees) → s.may_leave db
+    → IsHouse (record { schema = house_schema; trees = db })
+
+-- No transaction is open; and until it failed, a house is committed, as far as the disk was honest. A crash leaves a house
+-- whether it failed or not.
 pub record IsKept {S : Type 0} (g : Ghosts S) (k : House S) : Type 0 where
   pub idle : k.conn.in_transaction ≡ false
   pub moment : IsMoment k.clock
   pub rests : k.failed ≡ false → HasCleanDisk (state g k.conn) → IsAtRest (state g k.conn)
   pub known : k.failed ≡ false → HasCleanDisk (state g k.conn) → IsKnown k.editions k.reserves k.counts k.clock (state g k.conn).now.trees
+  pub houses : LeavesHouses (state g k.conn)
 
 -- ---- what the clauses of a keep speak of
 

@@ -11,6 +11,7 @@ use Rattle.store_rows.specs.declared.reserve.ReserveRow.{ReserveRow}
 use Rattle.store_rows.specs.declared.rules.Rules.{Rules}
 use Rattle.store.specs.After.{bands_set, with_table}
 use Rattle.store.specs.Kept.{content}
+use Rattle.store.proofs.Houses.{houses_or_made, houses_stay, shown_houses}
 use Rattle.store.proofs.Moves.{can_add, known_after, left_after}
 use Rattle.store.proofs.keep.SqlKeep.change.Goals as goal
 
@@ -60,6 +61,18 @@ invariant_of-self-in-Ok g c = record {
       let before : HasCleanDisk (state g.S.Store c.self.inside.conn) = omega (arith, c.in-Ok.ensures.commit.crash.clean, honest) in
       rw (c.in_ok-add_rules.ensures.value, c.in-Some-counts_after.ensures.value, c.in-Some.ensures.value)
       (known_after c.self.inside.rules.editions c.self.inside.rules.reserves c.self.inside.counts c.self.inside.clock c.args.change.now (state g.S.Store c.self.inside.conn).now _ (c.self.invariant.known c.if-self.false before) (c.in-Ok.ensures.commit.ok honest).2);
+  houses = shown_houses (state g.S.Store c.make_change.new.conn) c.in-Ok.ensures.commit.only (λ honest. (c.in-Ok.ensures.commit.ok honest).2.house);
+}
+
+-- where it fails a crash leaves what it left before, or the change
+pub invariant_of-self-in-Err : goal.invariant_of-self-in-Err
+invariant_of-self-in-Err g c = record {
+  idle = search rules;
+  moment = search rules;
+  rests = search rules;
+  known = search rules;
+  houses = houses_stay _ _ c.reported_fault.ensures.crash
+      (houses_or_made c.args.change.now _ _ c.in-Err.ensures.commit.crash c.self.invariant.houses);
 }
 
 pub returns-in-Err-clause-crash : goal.returns-in-Err-clause-crash

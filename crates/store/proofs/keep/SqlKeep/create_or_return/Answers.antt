@@ -1,5 +1,6 @@
 use Rattle.std.proofs.Common.{Err, ap, arith, rules}
 use Rattle.store.proofs.Begins.{known_new}
+use Rattle.store.proofs.Houses.{rests_in_houses}
 use Rattle.store.proofs.keep.SqlKeep.create_or_return.Goals as goal
 
 pub invariant_of-result : goal.invariant_of-result
@@ -8,6 +9,7 @@ invariant_of-result g c = record {
   moment = omega arith;
   rests = λ going honest. (c.in-Ok.ensures.ok honest).0;
   known = λ going honest. known_new _ _ _ _ c.new.ensures (c.in-Ok.ensures.ok honest).1 (search rules) (c.in-Ok.ensures.reserves honest);
+  houses = rests_in_houses _ (λ db is_open may. g.met.S.Store.settled c.make_house.new.conn.store db is_open may) (λ honest. (c.in-Ok.ensures.ok honest).0);
 }
 
 -- an error leaves what is so

@@ -1,4 +1,5 @@
 use Rattle.store.proofs.Begins.{known_read}
+use Rattle.store.proofs.Houses.{rests_in_houses}
 use Rattle.store.proofs.keep.SqlKeep.of_house.Goals as goal
 
 pub invariant_of-result : goal.invariant_of-result
@@ -7,4 +8,5 @@ invariant_of-result g c = record {
   moment = c.requires.moment;
   rests = λ going honest. c.requires.rests honest;
   known = λ going honest. known_read _ _ _ _ _ (c.requires.editions honest) (c.requires.reserves honest) (c.requires.counts honest) (c.requires.clock honest);
+  houses = rests_in_houses _ (λ db is_open may. g.met.S.Store.settled c.args.house.conn.store db is_open may) c.requires.rests;
 }
