@@ -1,4 +1,4 @@
-//! `audit`: the messages of two files, over new houses or over copies of one in a file.
+//! `audit` and `surplus`: the messages of files, over new houses or over copies of one in a file.
 ghost use Rattle.std.specs.Prelude.{◌≡◌, ◌≤◌, IfOk};
 ghost use Rattle.auction_words.specs.Houses.{IsNew};
 
@@ -6,16 +6,28 @@ use crate::copies::{CopiedKeep, Copies, StoreInMemory};
 use crate::files::Place;
 use crate::houses::KeepInMemory;
 use crate::input::open_source;
-use auction_runs::{Run, TaskFault, audit_from_run, audit_run, finish_run};
-use auction_words::{AuditWords, Beginning, HouseWords, read_settings, same_settings};
+use auction_runs::{Houses, Raise, Run, TaskFault, Trial, audit_run, finish_run, surplus_run};
+use auction_words::{
+    AuditWords, Beginning, HouseWords, SurplusWords, read_settings, same_settings,
+};
 use device::Writing;
+use house_rows::Keep;
 use sqlite::FileStore;
 use sqlite_disk::Memory;
 use std::alloc::Global;
 use store::SqlKeep;
 
-/// Two new houses in memory, set up alike.
-pub(crate) fn new_houses<K: KeepInMemory>(
+/// What is answered over two houses, and compared.
+#[derive(Clone, Copy)]
+pub enum Comparison<'a> {
+    /// The messages of two files.
+    Audit(AuditWords<'a>),
+    /// Those of one, and the same with a bid raised.
+    Surplus(SurplusWords<'a>),
+}
+
+// Two new houses in memory, set up alike.
+fn new_houses<K: KeepInMemory>(
     rt: &HostRuntime,
     alloc: Global,
     words: &HouseWords<'_>,
@@ -30,87 +42,138 @@ pub(crate) fn new_houses<K: KeepInMemory>(
     Ok((left, right))
 }
 
-// Compares the messages of two files over new houses.
-fn audit_files<K: KeepInMemory>(
+// Compares the messages of two files.
+fn audit_keeps<K: Keep + Drop>(
     rt: &HostRuntime,
     alloc: Global,
-    words: &HouseWords<'_>,
+    houses: Houses,
+    left: K,
+    right: K,
     asked: AuditWords<'_>,
 ) -> u8
     ensures { result ≤ 1 }
 {
+    let left = Run {
+        keep: left,
+        source: open_source(rt, asked.left),
+    };
+    let right = Run {
+        keep: right,
+        source: open_source(rt, asked.right),
+    };
     let mut errors = Writing::new(rt.stderr());
-    match new_houses::<K>(rt, alloc, words) {
-        Ok((left_keep, right_keep)) => {
-            let left = Run {
-                keep: left_keep,
-                source: open_source(rt, asked.left),
-            };
-            let right = Run {
-                keep: right_keep,
-                source: open_source(rt, asked.right),
-            };
-            let caller = asked.member;
-            audit_run(alloc, left, right, caller, &mut rt.stdout(), &mut errors)
-        }
-        Err(fault) => finish_run(&mut errors, Err(fault)),
+    audit_run(
+        alloc,
+        houses,
+        left,
+        right,
+        asked.member,
+        &mut rt.stdout(),
+        &mut errors,
+    )
+}
+
+// Raises a bid of the messages of a file.
+fn surplus_keeps<K: Keep + Drop>(
+    rt: &HostRuntime,
+    alloc: Global,
+    houses: Houses,
+    left: K,
+    right: K,
+    asked: SurplusWords<'_>,
+) -> u8
+    ensures { result ≤ 1 }
+{
+    let trial = Trial {
+        left,
+        right,
+        source: open_source(rt, asked.list),
+    };
+    let raise = Raise {
+        place: asked.place,
+        maximum: asked.maximum,
+        other: asked.member,
+    };
+    let mut errors = Writing::new(rt.stderr());
+    surplus_run(alloc, houses, trial, raise, &mut rt.stdout(), &mut errors)
+}
+
+// Compares over the houses of two keeps.
+fn compare_keeps<K: Keep + Drop>(
+    rt: &HostRuntime,
+    alloc: Global,
+    houses: Houses,
+    left: K,
+    right: K,
+    asked: Comparison<'_>,
+) -> u8
+    ensures { result ≤ 1 }
+{
+    match asked {
+        Comparison::Audit(asked) => audit_keeps(rt, alloc, houses, left, right, asked),
+        Comparison::Surplus(asked) => surplus_keeps(rt, alloc, houses, left, right, asked),
     }
 }
 
-// Compares the messages of two files over copies of the house in a third.
-fn audit_copies<K: CopiedKeep, T: Place>(
+// Compares over new houses.
+fn compare_new<K: KeepInMemory>(
+    rt: &HostRuntime,
+    alloc: Global,
+    words: &HouseWords<'_>,
+    asked: Comparison<'_>,
+) -> u8
+    ensures { result ≤ 1 }
+{
+    match new_houses::<K>(rt, alloc, words) {
+        Ok((left, right)) => compare_keeps(rt, alloc, Houses::New, left, right, asked),
+        Err(fault) => finish_run(&mut Writing::new(rt.stderr()), Err(fault)),
+    }
+}
+
+// Compares over copies of the house in a file.
+fn compare_copies<K: CopiedKeep, T: Place>(
     rt: &HostRuntime,
     alloc: Global,
     path: &str,
-    asked: AuditWords<'_>,
+    asked: Comparison<'_>,
     first: T,
 ) -> u8
     ensures { result ≤ 1 }
 {
-    let mut errors = Writing::new(rt.stderr());
     match K::open_twice(rt, alloc, path, first) {
         Ok(Copies { left, right, .. }) => {
-            let left = Run {
-                keep: left,
-                source: open_source(rt, asked.left),
-            };
-            let right = Run {
-                keep: right,
-                source: open_source(rt, asked.right),
-            };
-            let caller = asked.member;
-            audit_from_run(alloc, left, right, caller, &mut rt.stdout(), &mut errors)
+            compare_keeps(rt, alloc, Houses::Living, left, right, asked)
         }
-        Err(fault) => finish_run(&mut errors, Err(TaskFault::from(fault))),
+        Err(fault) => finish_run(&mut Writing::new(rt.stderr()), Err(TaskFault::from(fault))),
     }
 }
 
 // The same, of copies in a store in memory.
-fn audit_house<S: StoreInMemory, T: Place>(
+fn compare_house<S: StoreInMemory, T: Place>(
     rt: &HostRuntime,
     alloc: Global,
     path: &str,
-    asked: AuditWords<'_>,
+    asked: Comparison<'_>,
     first: T,
 ) -> u8
     ensures { result ≤ 1 }
 {
-    audit_copies::<SqlKeep<S>, T>(rt, alloc, path, asked, first)
+    compare_copies::<SqlKeep<S>, T>(rt, alloc, path, asked, first)
 }
 
-/// Compares the messages of two files.
-pub(crate) fn audit<M: KeepInMemory, T: Place>(
+/// Compares what is asked for, over new houses or over copies of the house in a file.
+pub(crate) fn compare<M: KeepInMemory, T: Place>(
     rt: &HostRuntime,
     alloc: Global,
     begun: &Beginning<'_>,
-    asked: AuditWords<'_>,
+    asked: Comparison<'_>,
     first: T,
 ) -> u8
     ensures { result ≤ 1 }
 {
     match begun {
-        Beginning::New(house) => audit_files::<M>(rt, alloc, house, asked),
-        Beginning::House(path) => audit_house::<FileStore<Memory>, T>(
+        Beginning::New(house) => compare_new::<M>(rt, alloc, house, asked),
+        Beginning::House(path) => compare_house::<FileStore<Memory>, T>(
             rt, alloc, path, asked, first,
         ),
     }

@@ -25,7 +25,6 @@ mod replay;
 mod service;
 mod stores;
 mod stream;
-mod surplus;
 mod upkeep;
 
 use std::process::ExitCode;

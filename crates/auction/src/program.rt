@@ -4,7 +4,7 @@ ghost use Rattle.auction.specs.Tasks.{IsDone, IsLeftOf};
 ghost use Rattle.site_connections.specs.Turns.{Takes};
 
 use crate::accounts::statement_file;
-use crate::audit::audit;
+use crate::audit::{Comparison, compare};
 use crate::files::{DiskInFile, Place};
 use crate::houses::{KeepInFile, KeepInMemory};
 use crate::listener::{Listen, Listener};
@@ -13,7 +13,6 @@ use crate::remains::Remains;
 use crate::replay::replay_input;
 use crate::service::serve_file;
 use crate::stores::StoreInFile;
-use crate::surplus::surplus;
 use crate::upkeep::{bands_file, init_file, upgrade_file};
 use auction_runs::{MOST, TaskFault, finish_run};
 use auction_words::{Task, read_task};
@@ -146,14 +145,16 @@ fn do_task<F: KeepInFile, M: KeepInMemory, C: Listen>(
             )
         }
         Task::Audit(begun, asked) => {
+            let asked = Comparison::Audit(*asked);
             (
-                audit::<M, F::First>(rt, alloc, begun, *asked, first),
+                compare::<M, F::First>(rt, alloc, begun, asked, first),
                 Remains::Unopened,
             )
         }
         Task::Surplus(begun, asked) => {
+            let asked = Comparison::Surplus(*asked);
             (
-                surplus::<M, F::First>(rt, alloc, begun, *asked, first),
+                compare::<M, F::First>(rt, alloc, begun, asked, first),
                 Remains::Unopened,
             )
         }

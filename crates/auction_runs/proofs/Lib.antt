@@ -1,10 +1,7 @@
 pub mod Accounts
 pub mod Compared
-pub mod ComparedFrom
 pub mod FaultLines
 pub mod Outcomes
-pub mod Raises
-pub mod RaisesFrom
 pub mod Replays
 pub mod Rows
 pub mod Served

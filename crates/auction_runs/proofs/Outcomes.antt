@@ -104,12 +104,6 @@ pub either_end : {T E P Q : Type 0} (r : Result T E) → OnOk r P → OnErr r Q 
 either_end (Ok x) p q = inl p
 either_end (Err e) p q = inr q
 
--- what follows of a value
-pub if_ok_then : {T E : Type 0} {P Q : T → Type 0} (r : Result T E) → IfOk r P
-    → ((x : T) → P x → Q x) → IfOk r Q
-if_ok_then (Ok x) p f = f x p
-if_ok_then (Err e) p f = tt
-
 -- where all was handed on and then again, all is handed on
 pub flushed_twice : {W : Type 0} (handed_on taken : W → Option (List ℕ)) (a b c : W)
     → IsFlushed handed_on taken a b → IsFlushed handed_on taken b c

@@ -2,6 +2,7 @@
 use Rattle.std.specs.Prelude.{◌≡◌, ◌≢◌, ◌⊎◌, ℕ, List, [], length, Bool, true, false, Option, IfSome, Result, Ok, Err}
 use Rattle.std.specs.List.{AllZip}
 use Rattle.std.specs.Io.KnownBytes.{Appends}
+use Rattle.house_laws.specs.Alike.{AreAlike}
 use Rattle.house_rows.specs.declared.settings.Settings.{Settings}
 use Rattle.house_rows.specs.History.{History}
 use Rattle.house_rows.specs.Tables.{Tables, tables_of}
@@ -9,14 +10,18 @@ use Rattle.house_rows.specs.Verdict.{IsHistory}
 use Rattle.settle.specs.Zoned.{IsZoneOf}
 use Rattle.settle.specs.declared.zone.Zone.{Zone}
 use Rattle.site_audit.specs.Audits.{IsVerdict}
+use Rattle.site_audit.specs.AuditsFrom.{IsFoundFrom}
 use Rattle.site_audit.specs.Messages.{IsCutInto}
 use Rattle.site_audit.specs.Places.{Heard, IsHeard}
+use Rattle.site_audit.specs.declared.fault.AuditFault.{AuditFault}
 use Rattle.site_audit.specs.declared.verdict.Verdict.{Verdict}
 use Rattle.site_audit.specs.declared.verdict.Verdict.TheVariants.{Equal, Apart}
 use Rattle.wire.specs.Frame.{IsFront}
 use Rattle.wire.specs.declared.fault.WireFault.{WireFault}
 use Rattle.auction_runs.specs.Faults.{IsOfKeep}
 use Rattle.auction_runs.specs.Printed.{apart_line, equal_line}
+use Rattle.auction_runs.specs.declared.audit.Houses.{Houses}
+use Rattle.auction_runs.specs.declared.audit.Houses.TheVariants.{New, Living}
 use Rattle.auction_runs.specs.declared.audit.Run.{Run}
 use Rattle.auction_runs.specs.declared.fault.TaskFault.{TaskFault}
 use Rattle.auction_runs.specs.declared.fault.TaskFault.TheVariants.{Memory, Read, Write, Broken}
@@ -58,10 +63,12 @@ abbrev pub IsUncompared : {K L R : Type 0} → (L → Option (List ℕ)) → (R 
 IsUncompared left_bytes right_bytes left right fault =
     IsOfKeep fault ⊎ AreUnread left_bytes right_bytes left.source right.source fault
 
--- what an audit of two lists says, over two keeps and by a zone
-abbrev pub Finds : {K : Type 0} → (K → Tables) → (K → Bool) → (K → Type 0) → ℕ → Zone
-    → List (List ℕ) → List (List ℕ) → K → K → K → K → Verdict → Type 0
-Finds content is_failed is_honest c zone lefts rights left right left_new right_new verdict =
+-- what an audit of two lists says, over two keeps and by a zone. Of new houses: over keeps of any two
+-- houses, and that an audit can begin is part of it. Of living ones: over keeps that have the tables
+-- of histories which are alike for the caller; two of equal tables have one history
+abbrev pub Finds : {K : Type 0} → Houses → (K → Tables) → (K → Bool) → (K → Type 0) → ℕ → Zone
+    → List (List ℕ) → List (List ℕ) → K → K → K → K → Result Verdict AuditFault → Type 0
+Finds New content is_failed is_honest c zone lefts rights left right left_new right_new found =
     is_honest left_new → is_honest right_new
     → (settings others : Settings) (h k : History)
     → IsHistory settings h → IsHistory others k
@@ -69,24 +76,22 @@ Finds content is_failed is_honest c zone lefts rights left right left_new right_
     → (left_heard right_heard : List Heard)
     → AllZip IsHeard lefts left_heard → AllZip IsHeard rights right_heard
     → IsVerdict content is_failed settings zone c left_heard right_heard
-    left right left_new right_new (Ok verdict)
-
--- the messages of two sources were compared over two keeps, and this was found
-pub record HasFound {K L R : Type 0} (content : K → Tables) (is_failed : K → Bool)
-    (is_honest : K → Type 0) (left_bytes : L → Option (List ℕ)) (right_bytes : R → Option (List ℕ))
-    (c : ℕ) (zone : Zone) (left_source : Result L TaskFault) (right_source : Result R TaskFault)
-    (left right left_new right_new : K) (verdict : Verdict) : Type 0 where
-  pub lefts : List (List ℕ)
-  pub rights : List (List ℕ)
-  pub left_messages : HasMessages left_bytes left_source lefts
-  pub right_messages : HasMessages right_bytes right_source rights
-  pub found : Finds content is_failed is_honest c zone lefts rights left right left_new right_new
-      verdict
+    left right left_new right_new found
+Finds Living content is_failed is_honest c zone lefts rights left right left_new right_new found =
+    is_honest left_new → is_honest right_new
+    → (settings : Settings) (h k : History)
+    → IsHistory settings h → IsHistory settings k → AreAlike settings c h k
+    → content left ≡ tables_of settings h → content right ≡ tables_of settings k
+    → (left_heard right_heard : List Heard)
+    → AllZip IsHeard lefts left_heard → AllZip IsHeard rights right_heard
+    → IsFoundFrom content is_failed settings zone c h k left_heard right_heard left_new right_new
+    found
 
 -- the messages of two runs were compared over their houses, and this was found
-pub record HasAudited {K L R : Type 0} (content : K → Tables) (is_failed : K → Bool)
-    (is_honest : K → Type 0) (left_bytes : L → Option (List ℕ)) (right_bytes : R → Option (List ℕ))
-    (c : ℕ) (left : Run K L) (right : Run K R) (verdict : Verdict) : Type 0 where
+pub record HasAudited {K L R : Type 0} (houses : Houses) (content : K → Tables)
+    (is_failed : K → Bool) (is_honest : K → Type 0) (left_bytes : L → Option (List ℕ))
+    (right_bytes : R → Option (List ℕ)) (c : ℕ) (left : Run K L) (right : Run K R)
+    (verdict : Verdict) : Type 0 where
   pub lefts : List (List ℕ)
   pub rights : List (List ℕ)
   pub left_messages : HasMessages left_bytes left.source lefts
@@ -95,8 +100,8 @@ pub record HasAudited {K L R : Type 0} (content : K → Tables) (is_failed : K �
   pub kept_zone : is_honest left.keep → IsZoneOf (content left.keep).settings.zone zone
   pub left_keep : K
   pub right_keep : K
-  pub found : Finds content is_failed is_honest c zone lefts rights left.keep right.keep
-      left_keep right_keep verdict
+  pub found : Finds houses content is_failed is_honest c zone lefts rights left.keep right.keep
+      left_keep right_keep (Ok verdict)
 
 -- a verdict was reported, and whether the runs are equal
 abbrev pub IsReported : Option (List ℕ) → Option (List ℕ) → Verdict → Bool → Type 0
@@ -106,12 +111,13 @@ IsReported before after (Apart step) true = ⊥
 IsReported before after (Apart step) false = Appends before after (apart_line step)
 
 -- what was found of two runs was reported
-pub record HasReported {K L R : Type 0} (content : K → Tables) (is_failed : K → Bool)
-    (is_honest : K → Type 0) (left_bytes : L → Option (List ℕ)) (right_bytes : R → Option (List ℕ))
-    (c : ℕ) (left : Run K L) (right : Run K R) (before after : Option (List ℕ)) (equal : Bool) :
-    Type 0 where
+pub record HasReported {K L R : Type 0} (houses : Houses) (content : K → Tables)
+    (is_failed : K → Bool) (is_honest : K → Type 0) (left_bytes : L → Option (List ℕ))
+    (right_bytes : R → Option (List ℕ)) (c : ℕ) (left : Run K L) (right : Run K R)
+    (before after : Option (List ℕ)) (equal : Bool) : Type 0 where
   pub verdict : Verdict
-  pub audited : HasAudited content is_failed is_honest left_bytes right_bytes c left right verdict
+  pub audited : HasAudited houses content is_failed is_honest left_bytes right_bytes c left right
+      verdict
   pub report : IsReported before after verdict equal
 
 -- why nothing, or not all, was reported: the runs are not compared, or the output failed

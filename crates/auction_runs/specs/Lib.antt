@@ -1,5 +1,4 @@
 pub mod Audited
-pub mod AuditedFrom
 pub mod Faults
 pub mod Inquired
 pub mod Lines
@@ -7,7 +6,6 @@ pub mod Listed
 pub mod Over
 pub mod Printed
 pub mod Raised
-pub mod RaisedFrom
 pub mod Replayed
 pub mod Runs
 pub mod Served

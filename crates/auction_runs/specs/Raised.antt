@@ -10,47 +10,56 @@ use Rattle.settle.specs.Zoned.{IsZoneOf}
 use Rattle.settle.specs.declared.zone.Zone.{Zone}
 use Rattle.site_audit.specs.Places.{Heard, IsHeard}
 use Rattle.site_audit.specs.Surplus.{IsSurplusResult}
+use Rattle.site_audit.specs.SurplusFrom.{IsSurplusFoundFrom}
+use Rattle.site_audit.specs.declared.fault.AuditFault.{AuditFault}
 use Rattle.site_audit.specs.declared.outcome.Surplus.{Surplus}
 use Rattle.site_audit.specs.declared.outcome.Surplus.TheVariants.{Same, NotCovered}
+use Rattle.steps.specs.Table.{IsBandTable}
 use Rattle.auction_runs.specs.Audited.{HasMessages, IsUnread}
 use Rattle.auction_runs.specs.Faults.{IsOfKeep}
 use Rattle.auction_runs.specs.Printed.{not_covered_line, same_line}
+use Rattle.auction_runs.specs.declared.audit.Houses.{Houses}
+use Rattle.auction_runs.specs.declared.audit.Houses.TheVariants.{New, Living}
 use Rattle.auction_runs.specs.declared.fault.TaskFault.{TaskFault}
 use Rattle.auction_runs.specs.declared.fault.TaskFault.TheVariants.{Write}
 use Rattle.auction_runs.specs.declared.fault.Side.TheVariants.{Only}
 use Rattle.auction_runs.specs.declared.surplus.Raise.{Raise}
 use Rattle.auction_runs.specs.declared.surplus.Trial.{Trial}
 
--- what is reported of a list and a bid of it, over two keeps and by a zone
-abbrev pub TellsOf : {K : Type 0} → (K → Tables) → (K → Bool) → (K → Type 0) → Raise → Zone
-    → List (List ℕ) → K → K → K → K → Surplus → Type 0
-TellsOf content is_failed is_honest raise zone texts left right left_new right_new report =
+-- what is reported of a list and a bid of it, over two keeps and by a zone. Of new houses: over keeps
+-- of any two houses, and that an audit can begin is part of it. Of living ones: over keeps that have
+-- the tables of one history
+abbrev pub TellsOf : {K : Type 0} → Houses → (K → Tables) → (K → Bool) → (K → Type 0) → Raise → Zone
+    → List (List ℕ) → K → K → K → K → Result Surplus AuditFault → Type 0
+TellsOf New content is_failed is_honest raise zone texts left right left_new right_new report =
     is_honest left_new → is_honest right_new
     → (settings others : Settings) (h k : History)
     → IsHistory settings h → IsHistory others k
     → content left ≡ tables_of settings h → content right ≡ tables_of others k
     → (heards : List Heard) → AllZip IsHeard texts heards
     → IsSurplusResult content is_failed settings zone raise.other raise.place raise.maximum heards
-    left right left_new right_new (Ok report)
+    left right left_new right_new report
+TellsOf Living content is_failed is_honest raise zone texts left right left_new right_new report =
+    is_honest left_new → is_honest right_new
+    → (settings : Settings) → IsBandTable settings.bands
+    → (h : History) → IsHistory settings h
+    → content left ≡ tables_of settings h → content right ≡ tables_of settings h
+    → (heards : List Heard) → AllZip IsHeard texts heards
+    → IsSurplusFoundFrom content is_failed settings zone raise.other h raise.place raise.maximum
+    heards left_new right_new report
 
--- a bid of the messages of a source was raised, over two keeps, and this was found
-pub record HasLooked {K S : Type 0} (content : K → Tables) (is_failed : K → Bool)
-    (is_honest : K → Type 0) (bytes_of : S → Option (List ℕ)) (raise : Raise) (zone : Zone)
-    (source : Result S TaskFault) (left right left_new right_new : K) (report : Surplus) : Type 0 where
-  pub texts : List (List ℕ)
-  pub messages : HasMessages bytes_of source texts
-  pub found : TellsOf content is_failed is_honest raise zone texts left right left_new right_new report
-
--- and over the keeps that were given
-pub record HasTried {K S : Type 0} (content : K → Tables) (is_failed : K → Bool)
+-- a bid of the messages of a source was raised, over the keeps that were given, and this was found
+pub record HasTried {K S : Type 0} (houses : Houses) (content : K → Tables) (is_failed : K → Bool)
     (is_honest : K → Type 0) (bytes_of : S → Option (List ℕ)) (raise : Raise) (trial : Trial K S)
     (report : Surplus) : Type 0 where
+  pub texts : List (List ℕ)
+  pub messages : HasMessages bytes_of trial.source texts
   pub zone : Zone
   pub kept_zone : is_honest trial.left → IsZoneOf (content trial.left).settings.zone zone
   pub left_keep : K
   pub right_keep : K
-  pub looked : HasLooked content is_failed is_honest bytes_of raise zone trial.source
-      trial.left trial.right left_keep right_keep report
+  pub found : TellsOf houses content is_failed is_honest raise zone texts trial.left trial.right
+      left_keep right_keep (Ok report)
 
 -- why nothing was found: a keep reported the fault, or the source gives no messages
 abbrev pub IsUntried : {K S : Type 0} → (S → Option (List ℕ)) → Trial K S → TaskFault → Type 0
@@ -64,11 +73,11 @@ IsShown before after NotCovered true = ⊥
 IsShown before after NotCovered false = Appends before after not_covered_line
 
 -- what was found of a surplus was printed
-pub record HasShown {K S : Type 0} (content : K → Tables) (is_failed : K → Bool)
+pub record HasShown {K S : Type 0} (houses : Houses) (content : K → Tables) (is_failed : K → Bool)
     (is_honest : K → Type 0) (bytes_of : S → Option (List ℕ)) (raise : Raise) (trial : Trial K S)
     (before after : Option (List ℕ)) (covered : Bool) : Type 0 where
   pub report : Surplus
-  pub tried : HasTried content is_failed is_honest bytes_of raise trial report
+  pub tried : HasTried houses content is_failed is_honest bytes_of raise trial report
   pub shown : IsShown before after report covered
 
 -- why nothing, or not all, was printed: nothing was found, or the output failed

@@ -1,7 +1,7 @@
 //! `audit`: two runs of messages, compared as one member sees them.
-ghost use Rattle.std.specs.Prelude.{◌≡◌, ◌≤◌, ◌⊎◌, ◌↔◌, true, Ok, IfErr, IfOk, OnOk, map};
+ghost use Rattle.std.specs.Prelude.{◌≡◌, ◌≤◌, ◌↔◌, true, Ok, IfErr, IfOk, OnOk, map};
 ghost use Rattle.std.specs.Io.KnownBytes.{Appends};
-ghost use Rattle.auction_runs.specs.Audited.{AreUnread, HasAudited, HasFound, HasMessages, HasReported, IsReported, IsUncompared, IsUnread, IsUnreported};
+ghost use Rattle.auction_runs.specs.Audited.{Finds, HasAudited, HasMessages, HasReported, IsReported, IsUncompared, IsUnread, IsUnreported};
 ghost use Rattle.auction_runs.specs.Faults.{IsOfKeep, fault_of_messages};
 ghost use Rattle.auction_runs.specs.Printed.{apart_line, equal_line};
 ghost use Rattle.settle.specs.Zoned.{IsZoneOf};
@@ -13,11 +13,20 @@ use crate::serve::site_over;
 use device::{Sink, Source};
 use house_rows::Keep;
 use site::Site;
-use site_audit::{MessagesFault, Verdict, audit, read_messages};
+use site_audit::{AuditFault, MessagesFault, Verdict, audit, audit_from, read_messages};
 use std::alloc::Global;
 use std::io::Write;
 
-/// One side of an audit: a new house, and where its messages come from, or why they can't be read.
+/// Which two houses runs begin with.
+#[derive(Clone, Copy)]
+pub enum Houses {
+    /// Two that are new, and were set up alike.
+    New,
+    /// Two that live on, and have been alike so far for the member who looks.
+    Living,
+}
+
+/// One side of an audit: a house, and where its messages come from, or why they can't be read.
 #[derive(Drop)]
 pub struct Run<K: Drop, S: Drop> {
     /// The keep of the house.
@@ -72,47 +81,51 @@ pub fn both_begun<K: Keep + Drop>(
     }
 }
 
-// What an audit of the messages of two sources finds, over two sites. What is wrong on the left is
-// reported before what is wrong on the right.
-fn compare_over<L: Source + Drop, R: Source + Drop, K: Keep + Drop>(
+// What an audit of two lists finds, over two sites.
+fn compare_over<K: Keep + Drop>(
     alloc: Global,
+    houses: Houses,
     left: &mut Site<K>,
     right: &mut Site<K>,
-    left_source: Result<L, TaskFault>,
-    right_source: Result<R, TaskFault>,
+    lefts: &[Vec<u8>],
+    rights: &[Vec<u8>],
     caller: u64,
-) -> Result<Verdict, TaskFault>
-    ensures found { IfOk result (HasFound K.content K.is_failed K.is_honest L.left R.left caller
-        (zone_of left.old) left_source right_source
-        (keep_of left.old) (keep_of right.old) (keep_of left.new) (keep_of right.new)) }
-    ensures fault { IfErr result (λ fault. IsOfKeep fault
-        ⊎ AreUnread L.left R.left left_source right_source fault) }
+) -> Result<Verdict, AuditFault>
+    ensures found { Finds houses K.content K.is_failed K.is_honest caller (zone_of left.old)
+        (map (λ m. m.items) lefts.now) (map (λ m. m.items) rights.now)
+        (keep_of left.old) (keep_of right.old) (keep_of left.new) (keep_of right.new) result }
 {
-    let lefts = messages(alloc, left_source, Side::Left)?;
-    let rights = messages(alloc, right_source, Side::Right)?;
-    Ok(audit(alloc, left, right, &lefts, &rights, caller)?)
+    match houses {
+        Houses::New => audit(alloc, left, right, lefts, rights, caller),
+        Houses::Living => audit_from(alloc, left, right, lefts, rights, caller),
+    }
 }
 
-// What an audit of two runs finds.
+// What an audit of two runs finds. What is wrong on the left is reported before what is wrong on
+// the right.
 fn compare<L: Source + Drop, R: Source + Drop, K: Keep + Drop>(
     alloc: Global,
+    houses: Houses,
     left: Run<K, L>,
     right: Run<K, R>,
     caller: u64,
 ) -> Result<Verdict, TaskFault>
     ensures found { IfOk result
-        (HasAudited K.content K.is_failed K.is_honest L.left R.left caller left right) }
+        (HasAudited houses K.content K.is_failed K.is_honest L.left R.left caller left right) }
     ensures fault { IfErr result (IsUncompared L.left R.left left right) }
 {
     let (mut left_site, mut right_site) = both_begun(alloc, left.keep, right.keep)?;
-    compare_over(
+    let lefts = messages(alloc, left.source, Side::Left)?;
+    let rights = messages(alloc, right.source, Side::Right)?;
+    Ok(compare_over(
         alloc,
+        houses,
         &mut left_site,
         &mut right_site,
-        left.source,
-        right.source,
+        &lefts,
+        &rights,
         caller,
-    )
+    )?)
 }
 
 // Reports that the runs are equal, with so many replies.
@@ -139,8 +152,8 @@ fn write_apart<W: Write>(output: &mut W, step: u64) -> Result<(), TaskFault>
     }
 }
 
-/// Reports a verdict, and gives whether the runs are equal.
-pub fn write_verdict<W: Write>(output: &mut W, verdict: &Verdict) -> Result<bool, TaskFault>
+// Reports a verdict, and gives whether the runs are equal.
+fn write_verdict<W: Write>(output: &mut W, verdict: &Verdict) -> Result<bool, TaskFault>
     ensures report { IfOk result
         (IsReported (W.contents output.old) (W.contents output.new) verdict.now) }
     ensures fault { IfErr result (λ fault. fault ≡ TaskFault.Write) }
@@ -157,22 +170,23 @@ pub fn write_verdict<W: Write>(output: &mut W, verdict: &Verdict) -> Result<bool
     }
 }
 
-/// Compares two runs of messages over new houses as a member sees them, and reports what was found.
+/// Compares two runs of messages over two houses as a member sees them, and reports what was found.
 /// Ok is whether they are equal. What is wrong on the left is reported before what is wrong on the
 /// right.
 pub fn report_comparison<L: Source + Drop, R: Source + Drop, W: Write, K: Keep + Drop>(
     alloc: Global,
+    houses: Houses,
     left: Run<K, L>,
     right: Run<K, R>,
     caller: u64,
     output: &mut W,
 ) -> Result<bool, TaskFault>
     ensures report { IfOk result
-        (HasReported K.content K.is_failed K.is_honest L.left R.left caller left right
+        (HasReported houses K.content K.is_failed K.is_honest L.left R.left caller left right
         (W.contents output.old) (W.contents output.new)) }
     ensures fault { IfErr result (IsUnreported L.left R.left left right) }
 {
-    let verdict = compare(alloc, left, right, caller)?;
+    let verdict = compare(alloc, houses, left, right, caller)?;
     write_verdict(output, &verdict)
 }
 
@@ -189,11 +203,12 @@ pub fn status<E: Sink>(errors: &mut E, equal: Result<bool, TaskFault>) -> u8
     }
 }
 
-/// Compares two runs of messages over new houses as a member sees them, reports what was found, and
+/// Compares two runs of messages over two houses as a member sees them, reports what was found, and
 /// gives the exit status: 0 where they are equal, and else 1. What is wrong on the left is reported
 /// before what is wrong on the right. A fault is written in its line on `errors`.
 pub fn audit_run<L: Source + Drop, R: Source + Drop, W: Write, E: Sink, K: Keep + Drop>(
     alloc: Global,
+    houses: Houses,
     left: Run<K, L>,
     right: Run<K, R>,
     caller: u64,
@@ -201,12 +216,12 @@ pub fn audit_run<L: Source + Drop, R: Source + Drop, W: Write, E: Sink, K: Keep 
     errors: &mut E,
 ) -> u8
     ensures equal { result ≡ 0
-        → HasReported K.content K.is_failed K.is_honest L.left R.left caller left right
+        → HasReported houses K.content K.is_failed K.is_honest L.left R.left caller left right
         (W.contents output.old) (W.contents output.new) true }
     ensures within { result ≤ 1 }
 {
     status(
         errors,
-        report_comparison(alloc, left, right, caller, output),
+        report_comparison(alloc, houses, left, right, caller, output),
     )
 }

@@ -9,7 +9,6 @@
 #![tactic(auto)]
 
 mod audit;
-mod audit_from;
 mod bands;
 mod ended;
 mod fault;
@@ -21,11 +20,9 @@ mod serve;
 mod setup;
 mod statement;
 mod surplus;
-mod surplus_from;
 mod upgrade;
 
-pub use audit::{Run, audit_run};
-pub use audit_from::audit_from_run;
+pub use audit::{Houses, Run, audit_run};
 pub use bands::bands_run;
 pub use fault::{Side, TaskFault, finish_run};
 pub use import::import_run;
@@ -34,5 +31,4 @@ pub use replay::replay_run;
 pub use serve::{MOST, answer_each, begin_site, serve_run};
 pub use statement::{Inquiry, statement_run};
 pub use surplus::{Raise, Trial, surplus_run};
-pub use surplus_from::surplus_from_run;
 pub use upgrade::upgrade_run;

@@ -1,19 +1,17 @@
 //! `surplus`: whether it shows to another member how much higher a covered bid is sealed.
-ghost use Rattle.std.specs.Prelude.{◌≡◌, ◌≤◌, ◌⊎◌, true, IfErr, IfOk, OnOk};
+ghost use Rattle.std.specs.Prelude.{◌≡◌, ◌≤◌, true, IfErr, IfOk, OnOk, map};
 ghost use Rattle.std.specs.Io.KnownBytes.{Appends};
-ghost use Rattle.auction_runs.specs.Audited.{IsUnread};
-ghost use Rattle.auction_runs.specs.Faults.{IsOfKeep};
 ghost use Rattle.auction_runs.specs.Printed.{not_covered_line, same_line};
-ghost use Rattle.auction_runs.specs.Raised.{HasLooked, HasShown, HasTried, IsShown, IsUnshown, IsUntried};
+ghost use Rattle.auction_runs.specs.Raised.{HasShown, HasTried, IsShown, IsUnshown, IsUntried, TellsOf};
 ghost use Rattle.site.specs.Answers.{zone_of};
 ghost use Rattle.site_serve.specs.Serving.{keep_of};
 
-use crate::audit::{both_begun, messages, status};
+use crate::audit::{Houses, both_begun, messages, status};
 use crate::fault::{Side, TaskFault};
 use device::{Sink, Source};
 use house_rows::Keep;
 use site::Site;
-use site_audit::{Surplus, surplus};
+use site_audit::{AuditFault, Surplus, surplus, surplus_from};
 use std::alloc::Global;
 use std::io::Write;
 
@@ -28,7 +26,7 @@ pub struct Raise {
     pub other: u64,
 }
 
-/// Two new houses, and where the messages come from, or why they can't be read.
+/// Two houses, and where the messages come from, or why they can't be read.
 #[derive(Drop)]
 pub struct Trial<K: Drop, S: Drop> {
     /// The keep of the house over which the messages are answered.
@@ -39,40 +37,44 @@ pub struct Trial<K: Drop, S: Drop> {
     pub source: Result<S, TaskFault>,
 }
 
-// What is found of the messages of a source, over two sites.
-fn look_over<S: Source + Drop, K: Keep + Drop>(
+// What is found of a list and a bid of it, over two sites.
+fn look_over<K: Keep + Drop>(
     alloc: Global,
+    houses: Houses,
     left: &mut Site<K>,
     right: &mut Site<K>,
-    source: Result<S, TaskFault>,
+    texts: &[Vec<u8>],
     raise: Raise,
-) -> Result<Surplus, TaskFault>
-    ensures found { IfOk result (HasLooked K.content K.is_failed K.is_honest S.left raise
-        (zone_of left.old) source
-        (keep_of left.old) (keep_of right.old) (keep_of left.new) (keep_of right.new)) }
-    ensures fault { IfErr result (λ fault. IsOfKeep fault ⊎ IsUnread S.left Side.Only source fault) }
+) -> Result<Surplus, AuditFault>
+    ensures found { TellsOf houses K.content K.is_failed K.is_honest raise (zone_of left.old)
+        (map (λ m. m.items) texts.now)
+        (keep_of left.old) (keep_of right.old) (keep_of left.new) (keep_of right.new) result }
 {
-    let texts = messages(alloc, source, Side::Only)?;
     let Raise {
         place,
         maximum,
         other,
     } = raise;
-    Ok(surplus(alloc, left, right, &texts, place, maximum, other)?)
+    match houses {
+        Houses::New => surplus(alloc, left, right, texts, place, maximum, other),
+        Houses::Living => surplus_from(alloc, left, right, texts, place, maximum, other),
+    }
 }
 
 // What is found over the houses of a trial.
 fn look<S: Source + Drop, K: Keep + Drop>(
     alloc: Global,
+    houses: Houses,
     trial: Trial<K, S>,
     raise: Raise,
 ) -> Result<Surplus, TaskFault>
     ensures found { IfOk result
-        (HasTried K.content K.is_failed K.is_honest S.left raise trial) }
+        (HasTried houses K.content K.is_failed K.is_honest S.left raise trial) }
     ensures fault { IfErr result (IsUntried S.left trial) }
 {
     let (mut left, mut right) = both_begun(alloc, trial.left, trial.right)?;
-    look_over(alloc, &mut left, &mut right, trial.source, raise)
+    let texts = messages(alloc, trial.source, Side::Only)?;
+    Ok(look_over(alloc, houses, &mut left, &mut right, &texts, raise)?)
 }
 
 // Reports that a bid is covered, with so many replies to who looks.
@@ -99,8 +101,8 @@ fn write_not_covered<W: Write>(output: &mut W) -> Result<(), TaskFault>
     }
 }
 
-/// Reports what was found, and gives whether the bid is covered.
-pub fn write_finding<W: Write>(output: &mut W, found: &Surplus) -> Result<bool, TaskFault>
+// Reports what was found, and gives whether the bid is covered.
+fn write_finding<W: Write>(output: &mut W, found: &Surplus) -> Result<bool, TaskFault>
     ensures report { IfOk result (IsShown (W.contents output.old) (W.contents output.new) found.now) }
     ensures fault { IfErr result (λ fault. fault ≡ TaskFault.Write) }
 {
@@ -116,35 +118,38 @@ pub fn write_finding<W: Write>(output: &mut W, found: &Surplus) -> Result<bool, 
     }
 }
 
-/// Answers messages over a new house, and over another with one bid raised, and reports whether the
-/// bid is covered, so that it shows to nobody else. Ok is whether it is.
+/// Answers messages over a house, and over another like it with one bid raised, and reports whether
+/// the bid is covered, so that it shows to nobody else. Ok is whether it is.
 pub fn report_surplus<S: Source + Drop, W: Write, K: Keep + Drop>(
     alloc: Global,
+    houses: Houses,
     trial: Trial<K, S>,
     raise: Raise,
     output: &mut W,
 ) -> Result<bool, TaskFault>
-    ensures report { IfOk result (HasShown K.content K.is_failed K.is_honest S.left raise trial
+    ensures report { IfOk result (HasShown houses K.content K.is_failed K.is_honest S.left raise trial
         (W.contents output.old) (W.contents output.new)) }
     ensures fault { IfErr result (IsUnshown S.left trial) }
 {
-    let found = look(alloc, trial, raise)?;
+    let found = look(alloc, houses, trial, raise)?;
     write_finding(output, &found)
 }
 
-/// Answers messages over a new house, and over another with one bid raised, reports whether the bid
-/// is covered, so that it shows to nobody else, and gives the exit status: 0 where it is, and else
-/// 1. A fault is written in its line on `errors`.
+/// Answers messages over a house, and over another like it with one bid raised, reports whether the
+/// bid is covered, so that it shows to nobody else, and gives the exit status: 0 where it is, and
+/// else 1. A fault is written in its line on `errors`.
 pub fn surplus_run<S: Source + Drop, W: Write, E: Sink, K: Keep + Drop>(
     alloc: Global,
+    houses: Houses,
     trial: Trial<K, S>,
     raise: Raise,
     output: &mut W,
     errors: &mut E,
 ) -> u8
-    ensures covered { result ≡ 0 → HasShown K.content K.is_failed K.is_honest S.left raise trial
+    ensures covered { result ≡ 0
+        → HasShown houses K.content K.is_failed K.is_honest S.left raise trial
         (W.contents output.old) (W.contents output.new) true }
     ensures within { result ≤ 1 }
 {
-    status(errors, report_surplus(alloc, trial, raise, output))
+    status(errors, report_surplus(alloc, houses, trial, raise, output))
 }

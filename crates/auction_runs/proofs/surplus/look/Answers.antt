@@ -1,14 +1,27 @@
+use Rattle.std.proofs.Common.{map}
 use Rattle.site.specs.Answers.{zone_of}
 use Rattle.site_audit.specs.Places.{keep_of}
-use Rattle.auction_runs.proofs.Outcomes.{if_ok_then}
-use Rattle.auction_runs.proofs.Raises.{has_tried}
+use Rattle.auction_runs.proofs.Compared.{uncompared}
+use Rattle.auction_runs.specs.Audited.{IsUnread}
+use Rattle.auction_runs.specs.declared.fault.Side.TheVariants.{Only}
 use Rattle.auction_runs.proofs.surplus.look.Goals as goal
+
+pub returns-in_err-look_over-clause-fault : goal.returns-in_err-look_over-clause-fault
+returns-in_err-look_over-clause-fault g c =
+    uncompared (IsUnread g.S.Source.left Only c.args.trial.source)
+    c.in_err-look_over.field-0.0 c.from_residual-in_err-look_over.result
+    c.from_residual-in_err-look_over.ensures
 
 pub returns-clause-found : goal.returns-clause-found
 returns-clause-found g c =
-    let k = g.K.Keep in
-    if_ok_then c.look_over.result c.look_over.ensures.found (λ report.
-    has_tried k.content k.is_failed k.is_honest g.S.Source.left c.args.raise c.args.trial report
-    (zone_of c.in_ok-left.left) (keep_of c.in_ok-left.left) (keep_of c.in_ok-left.right)
-    (keep_of c.look_over.new.left) (keep_of c.look_over.new.right)
-    c.in_ok-left.ensures.left c.in_ok-left.ensures.right c.in_ok-left.ensures.zone)
+    let sites = c.in_ok-left in
+    record {
+      texts = map (λ m. m.items) c.in_ok-texts.texts.items;
+      messages = c.in_ok-texts.ensures.ok;
+      zone = zone_of sites.left;
+      kept_zone = sites.ensures.zone;
+      left_keep = keep_of c.look_over.new.left;
+      right_keep = keep_of c.look_over.new.right;
+      found = rw (← sites.ensures.left, ← sites.ensures.right, ← c.deref.ensures.value)
+          c.in_ok-look_over.ensures.found;
+    }
