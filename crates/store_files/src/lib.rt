@@ -1,7 +1,8 @@
 //! Keeps of a house in a log and a database file whose trees lie in any order.
 //!
-//! Promised: whatever a crash leaves of such a keep, an opening of its files finds by the names of
-//! the tables what the crash may leave of it. Read `specs/InOrder.antt` first.
+//! Promised: as long as the disk was honest, an opening of what a crash leaves of such a keep's files
+//! finds, by the names of the tables, what the crash may leave of the keep. Read
+//! `specs/InOrder.antt` first.
 #![tactic(auto)]
 
 ghost use Rattle.std.specs.Prelude.{◌≡◌};
@@ -17,8 +18,9 @@ ghost use Rattle.store_files.specs.InOrder.{IsCrashed, order_state, over_order};
 
 use sqlite_disk::Disk;
 
-/// Whatever a crash leaves of the files of a keep, an opening of it commits a database in which the
-/// names find the tables of one that the crash may leave; of a keep at rest, its own tables.
+/// Where a crash has left this of the files of a keep whose disk was honest, an opening that finds it
+/// holds a database in which the names find the tables of one that the crash may leave; of a keep at
+/// rest, its own tables.
 pub fn openings_find_what_crashes_leave<D: Disk, E: Disk>()
     ensures found { (before : _) (left : Image) (opened : Held (FileStore E E.Disk))
         → IsCrashed D.Disk before left → FindsIn left (file_state opened)
