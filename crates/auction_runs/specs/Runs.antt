@@ -1,5 +1,6 @@
 -- What a run of the program did to the house in its file. Start here.
 use Rattle.std.specs.Prelude.{◌≡◌, ◌⊎◌, ◌≤◌, ℕ, Bool, true, List}
+use Rattle.steps.specs.Table.{Band}
 use Rattle.auction_runs.specs.Over.{IsOver}
 use Rattle.auction_runs.specs.Stated.{HasRead}
 use Rattle.auction_runs.specs.Tabled.{HasSet, IsTabledOver}
@@ -83,7 +84,7 @@ pub record HasAsked {K : Type 0} (k : keep.Ghosts K) (is_ended : K → Type 0)
 -- a keep took a band table at the moment, and was ended
 pub record HasSetTable {K : Type 0} (k : keep.Ghosts K) (is_ended : K → Type 0) (moment : ℕ)
     (given : K) : Type 0 where
-  pub bands : List (ℕ × ℕ)
+  pub bands : List Band
   pub edition : ℕ
   pub set : HasSet k.content k.is_honest k.may_leave is_ended moment (command.SetBands bands) given
       edition
@@ -91,7 +92,7 @@ pub record HasSetTable {K : Type 0} (k : keep.Ghosts K) (is_ended : K → Type 0
 -- this is left of it, whatever table it was given
 pub record MayHaveSetTable {K L : Type 0} (k : keep.Ghosts K) (is_ended is_left : K → L → Type 0)
     (moment : ℕ) (given : K) (left : L) : Type 0 where
-  pub bands : List (ℕ × ℕ)
+  pub bands : List Band
   pub over : IsTabledOver k.content k.is_honest k.may_leave is_ended is_left moment
       (command.SetBands bands) given left
 

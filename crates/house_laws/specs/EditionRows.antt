@@ -1,5 +1,6 @@
 -- Worked rows of band tables that the house sets, with values worked out by hand.
 use Rattle.std.specs.Prelude.{◌≡◌, ℕ, List, [], ◌∷◌, Option, Some, None, codes}
+use Rattle.steps.specs.Table.{Band}
 use Rattle.house_rows.specs.declared.command.Command.TheVariants.{Bid, SetBands}
 use Rattle.house_rows.specs.declared.page.Page.TheVariants.{Bands, Refused}
 use Rattle.house_rows.specs.declared.query.Query.TheVariants as query
@@ -14,7 +15,7 @@ use Rattle.house_laws.specs.Examples.{and_bid, lists, settings, setup}
 use Rattle.house_laws.specs.WorkedRows.{Tells}
 
 -- steps of 1.00 throughout
-abbrev pub flat : List (ℕ × ℕ)
+abbrev pub flat : List Band
 flat = (0, 100) ∷ []
 
 -- the house sets such a table, and then Ana lists item 2 from 5.00
@@ -53,7 +54,7 @@ TablesAreJudged =
 abbrev pub two_tables : History
 two_tables = entry 1003 1 (lists (codes "B2") 500 None) ∷ entry 1002 0 (SetBands ((0, 200) ∷ [])) ∷ with_flat
 
-abbrev pub goes_by : Option Listing → Option (ℕ × List (ℕ × ℕ))
+abbrev pub goes_by : Option Listing → Option (ℕ × List Band)
 goes_by None = None
 goes_by (Some l) = Some (edition_by l, bands_by settings l)
 

@@ -3,7 +3,7 @@ use Rattle.std.specs.Prelude.{◌≡◌, ℕ, ◌+◌, ◌*◌, ◌/◌, List, [
 use Rattle.std.specs.List.{list_any}
 use Rattle.settle.specs.Fee.{fee_of}
 use Rattle.steps.specs.Example.{example_table}
-use Rattle.steps.specs.Table.{step_at}
+use Rattle.steps.specs.Table.{Band, step_at}
 use Rattle.proxy.specs.declared.bid.Bid.{Bid as Placed}
 use Rattle.proxy.specs.Bids.{first_at, greatest, greatest_if_any, leader, maxima, price, second, top}
 use Rattle.house_rows.specs.declared.command.Command.TheVariants.{Close, Watch, Ask}
@@ -39,7 +39,7 @@ RaisesAreNoSecondBidder =
     × (second_of_all (bids_on (and_bid 1002 2 3000 one_bid) 1) ≡ Some 500)
 
 -- one step, at the price so far, over the second
-abbrev pub price_by_old_step : List (ℕ × ℕ) → ℕ → ℕ → ℕ
+abbrev pub price_by_old_step : List Band → ℕ → ℕ → ℕ
 price_by_old_step bands old second = second + step_at bands old
 
 abbrev pub StepsAreTakenAtTheSecond : Type 0

@@ -1,6 +1,6 @@
 //! Editions of the band table: an item goes by that of its listing.
 ghost use Rattle.std.specs.Prelude.{◌≡◌, ◌∷◌, ℕ, List, false, Some};
-ghost use Rattle.steps.specs.Table.{IsBandTable};
+ghost use Rattle.steps.specs.Table.{Band, IsBandTable};
 ghost use Rattle.house_rows.specs.declared.command.Command.TheVariants.{SetBands};
 ghost use Rattle.house_rows.specs.declared.query.Query.{Query};
 ghost use Rattle.house_rows.specs.declared.settings.Settings.{Settings};
@@ -20,9 +20,9 @@ ghost use Rattle.house_laws.specs.Reads.{tells_clock_or_bands};
 /// and edition of each stay. Nor does it change any page but those that show the clock or a table.
 #[tactic(auto, using(crate::proofs::Still::items_still, crate::proofs::Still::pages_still))]
 pub fn new_tables_leave_items()
-    ensures items { (settings : Settings) (h : History) (moment caller : ℕ) (bands : List (ℕ × ℕ))
+    ensures items { (settings : Settings) (h : History) (moment caller : ℕ) (bands : List Band)
         → items_shown settings (entry moment caller (SetBands bands) ∷ h) ≡ items_shown settings h }
-    ensures pages { (settings : Settings) (h : History) (moment caller : ℕ) (bands : List (ℕ × ℕ)) (reader : ℕ) (query : Query)
+    ensures pages { (settings : Settings) (h : History) (moment caller : ℕ) (bands : List Band) (reader : ℕ) (query : Query)
         → tells_clock_or_bands query ≡ false
         → page_of settings (entry moment caller (SetBands bands) ∷ h) reader query ≡ page_of settings h reader query }
 {}

@@ -1,6 +1,6 @@
 //! What the price of an item is by, and what bidders can rely on.
 ghost use Rattle.std.specs.Prelude.{◌≡◌, ◌≤◌, ◌<◌, ◌++◌, ◌∷◌, ℕ, List, length, max, true, false, None, Some, MatchOption};
-ghost use Rattle.steps.specs.Table.{IsBandTable, over};
+ghost use Rattle.steps.specs.Table.{Band, IsBandTable, over};
 ghost use Rattle.proxy.specs.Bids.{greatest, second, top, with_reserve};
 ghost use Rattle.house_rows.specs.declared.command.Command.TheVariants.{Buy};
 ghost use Rattle.house_rows.specs.declared.settings.Settings.{Settings};
@@ -29,14 +29,14 @@ pub fn prices_never_fall()
 /// reserve above that, the reserve takes its place.
 #[tactic(auto, using(crate::proofs::Bidders::above_price_leads, crate::proofs::Bidders::leader_covers, crate::proofs::Bidders::price_one_step))]
 pub fn best_offer_leads()
-    ensures above { (bands : List (ℕ × ℕ)) (h : History) (l : Listing) (member : ℕ)
+    ensures above { (bands : List Band) (h : History) (l : Listing) (member : ℕ)
         → is_bought h l.item ≡ false → price_of bands h l < greatest (bids_on h l.item) member
         → leader_of h l ≡ Some member }
     ensures covered { (settings : Settings) (h : History) (l : Listing) (member : ℕ)
         → IsHistory settings h → listing_at (listings h) l.item ≡ Some l
         → is_bought h l.item ≡ false → leader_of h l ≡ Some member
         → price_of (bands_by settings l) h l ≤ greatest (bids_on h l.item) member }
-    ensures one_step { (bands : List (ℕ × ℕ)) (h : History) (l : Listing)
+    ensures one_step { (bands : List Band) (h : History) (l : Listing)
         → is_bought h l.item ≡ false
         → MatchOption (second (bids_on h l.item))
         (price_of bands h l ≡ with_reserve l.reserve (top (bids_on h l.item)) l.start)
@@ -62,7 +62,7 @@ pub fn purchases_cost_the_buy_now_price()
 /// nothing that is done with other items.
 #[tactic(auto, using(crate::proofs::Deals::price_follows, crate::proofs::Deals::leader_follows, crate::proofs::Deals::count_follows))]
 pub fn prices_depend_on_deals()
-    ensures price { (bands : List (ℕ × ℕ)) (h k : History) (l m : Listing)
+    ensures price { (bands : List Band) (h k : History) (l m : Listing)
         → l.start ≡ m.start → l.reserve ≡ m.reserve → l.buy_now ≡ m.buy_now
         → deals_on h l.item ≡ deals_on k m.item
         → price_of bands h l ≡ price_of bands k m }

@@ -1,7 +1,7 @@
 -- What a keep may ask of a change: that it fits the tables, each row of which fits. That its new key is free the keep finds out.
 use Rattle.std.specs.Prelude.{◌≡◌, ◌≢◌, ◌<◌, ◌≤◌, ◌+◌, ◌⊎◌, ◌==◌, ◌&&◌, not, ℕ, List, length, true, false, IfSome, is_some, Some, None}
 use Rattle.std.specs.List.{list_any}
-use Rattle.steps.specs.Table.{IsBandTable}
+use Rattle.steps.specs.Table.{Band, IsBandTable}
 use Rattle.proxy.specs.declared.bid.Bid as bid
 use Rattle.proxy.specs.Accepted.{AreAccepted}
 use Rattle.proxy.specs.Bids.{one_more, standing_of}
@@ -121,7 +121,7 @@ pub record RatingFits (t : Tables) (moment item from to : ℕ) (text : List ℕ)
   pub text_fits : is_text 0 200 text ≡ true
 
 -- a valid band table, and room for it
-pub record TableFits (t : Tables) (moment : ℕ) (bands : List (ℕ × ℕ)) : Type 0 where
+pub record TableFits (t : Tables) (moment : ℕ) (bands : List Band) : Type 0 where
   pub moment_fits : IsMoment moment
   pub valid : IsBandTable bands
   pub room : length t.editions + 1 < most_editions

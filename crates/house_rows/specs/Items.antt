@@ -1,7 +1,7 @@
 -- What became of items, and items as everybody sees them.
 use Rattle.std.specs.Prelude.{if◌then◌else◌, ℕ, List, [], ◌∷◌, ◌++◌, Bool, true, false, not, ◌==◌, ◌&&◌, nat_le, map, find, Option, Some, None, is_some, option_map, unwrap_or, length}
 use Rattle.std.specs.List.{list_any}
-use Rattle.steps.specs.Table.{over}
+use Rattle.steps.specs.Table.{Band, over}
 use Rattle.proxy.specs.Bids.{leader, met, price}
 use Rattle.house_rows.specs.declared.command.Command.{Command}
 use Rattle.house_rows.specs.declared.command.Command.TheVariants.{Buy, Close, Settle}
@@ -82,7 +82,7 @@ abbrev pub leader_of : History → Listing → Option ℕ
 leader_of h l = leader_from (purchase_of h l.item) (leader (bids_on h l.item))
 
 -- the price: the buy-now price of what was bought, else that of its bids
-abbrev pub price_of : List (ℕ × ℕ) → History → Listing → ℕ
+abbrev pub price_of : List Band → History → Listing → ℕ
 price_of bands h l = if is_bought h l.item then unwrap_or l.buy_now 0 else price bands (listed_opening l) (bids_on h l.item)
 
 -- whether the reserve is met, if there is one: what was bought at once meets it
@@ -154,12 +154,12 @@ abbrev pub is_due : ℕ → Terms → Bool
 is_due moment terms = is_open terms.state && nat_le terms.end moment
 
 -- the floor, which is shown while the item is open: the start with no bid, else one step over the price
-abbrev pub floor_of : List (ℕ × ℕ) → Terms → Option ℕ
+abbrev pub floor_of : List Band → Terms → Option ℕ
 floor_of bands terms =
     if is_open terms.state then Some (if terms.count == 0 then terms.start else over bands terms.price) else None
 
 -- an item as pages show it, by an edition and its band table
-abbrev pub shown : ℕ → List (ℕ × ℕ) → Item → ItemShown
+abbrev pub shown : ℕ → List Band → Item → ItemShown
 shown edition bands it = record { item = it; edition = edition; floor = floor_of bands it.terms }
 
 -- a listed item as pages show it, by the edition of its listing

@@ -1,6 +1,7 @@
 -- What every call of a keep promises beside its answer. A keep that rests on a disk promises of its rows only while the disk
 -- has returned what was written: while it is honest.
 use Rattle.std.specs.Prelude.{◌≡◌, ◌≤◌, ◌<◌, ◌+◌, ◌⊎◌, length, ◌↔◌, ℕ, List, [], ◌∷◌, Bool, true, false, Option, Some, IfSome, Result, OnOk, IsErrOf, ◌==◌, filter, ◌≢◌, option_map}
+use Rattle.steps.specs.Table.{Band}
 use Rattle.std.specs.List.{AllByRecursion}
 use Rattle.proxy.specs.Accepted.{AreAccepted}
 use Rattle.proxy.specs.Bids.{met_by, standing_of}
@@ -34,7 +35,7 @@ pub record IsBought (row : ItemRow) : Type 0 where
   pub met : row.item.terms.met ≡ option_map (λ r. true) row.standing.reserve
 
 -- what an item's row shows of its bids is what a standing shows by these bands, whatever is sealed of it
-pub record IsByStanding (bands : List (ℕ × ℕ)) (t : Terms) : Type 0 where
+pub record IsByStanding (bands : List Band) (t : Terms) : Type 0 where
   -- what is sealed: the reserve, and the maxima, the greatest and the second
   pub reserve : Option ℕ
   pub top : Option ℕ
@@ -50,7 +51,7 @@ pub record IsPurchase (t : Terms) : Type 0 where
   pub met : t.met ≢ Some false
 
 -- an item's row shows the standing of some bids, or that it was bought at once
-abbrev pub IsConsistent : List (ℕ × ℕ) → Terms → Type 0
+abbrev pub IsConsistent : List Band → Terms → Type 0
 IsConsistent bands t = IsByStanding bands t ⊎ IsPurchase t
 
 -- by its own band table
@@ -69,7 +70,7 @@ abbrev pub IsConsistentAt : Tables → ℕ → Type 0
 IsConsistentAt t item = IfSome (terms_at t item) (IsConsistentIn t)
 
 -- the rows of an item fit: the item itself, and its standing, which is that of some accepted bids in range
-pub record ItemRowFits (bands : List (ℕ × ℕ)) (row : ItemRow) : Type 0 where
+pub record ItemRowFits (bands : List Band) (row : ItemRow) : Type 0 where
   pub item : ItemFits row.item
   -- some bids of which the row keeps the standing, whichever they are
   pub bids : List Bid

@@ -1,5 +1,6 @@
 -- Items as they were listed, each by the newest band table.
 use Rattle.std.specs.Prelude.{ℕ, ◌+◌, List, [], ◌∷◌, ◌++◌, ◌==◌, Bool, false, length, find, Option, Some, None}
+use Rattle.steps.specs.Table.{Band}
 use Rattle.proxy.specs.Opening.{Opening}
 use Rattle.house_rows.specs.declared.command.Command.{Command}
 use Rattle.house_rows.specs.declared.command.Command.TheVariants.{List as Listed, SetBands}
@@ -7,17 +8,17 @@ use Rattle.house_rows.specs.declared.settings.Settings.{Settings}
 use Rattle.house_rows.specs.History.{History}
 
 -- the band tables set so far, and the one that a command sets
-abbrev pub with_table : List (List (ℕ × ℕ)) → Command → List (List (ℕ × ℕ))
+abbrev pub with_table : List (List Band) → Command → List (List Band)
 with_table set (SetBands bands) = set ++ bands ∷ []
 with_table set _ = set
 
 -- the band tables that the house has set, in order
-abbrev pub tables_set : History → List (List (ℕ × ℕ))
+abbrev pub tables_set : History → List (List Band)
 tables_set [] = []
 tables_set (e ∷ h) = with_table (tables_set h) e.command
 
 -- the newest table: the last of those that were set, or this one where there is none
-abbrev pub newest_of : List (ℕ × ℕ) → List (List (ℕ × ℕ)) → List (ℕ × ℕ)
+abbrev pub newest_of : List Band → List (List Band) → List Band
 newest_of first [] = first
 newest_of first (bands ∷ set) = newest_of bands set
 
@@ -32,7 +33,7 @@ pub record Listing : Type 0 where
   pub start : ℕ
   pub buy_now : Option ℕ
   pub end : ℕ
-  pub set : List (List (ℕ × ℕ))
+  pub set : List (List Band)
   -- the least for which the seller sells, which is sealed
   pub reserve : Option ℕ
 
@@ -41,7 +42,7 @@ abbrev pub listed_opening : Listing → Opening
 listed_opening l = record { start = l.start; reserve = l.reserve }
 
 -- the listing that a command makes, if it is one
-abbrev pub listing_in : ℕ → List (List (ℕ × ℕ)) → ℕ → Command → List Listing
+abbrev pub listing_in : ℕ → List (List Band) → ℕ → Command → List Listing
 listing_in number set caller (Listed category lot title text start buy_now end reserve) = record {
   item = number;
   seller = caller;
@@ -67,7 +68,7 @@ abbrev pub edition_by : Listing → ℕ
 edition_by l = length l.set + 1
 
 -- and its band table: the newest of them, or the one that the house was set up with
-abbrev pub bands_by : Settings → Listing → List (ℕ × ℕ)
+abbrev pub bands_by : Settings → Listing → List Band
 bands_by settings l = newest_of settings.bands l.set
 
 -- the listing of an item

@@ -1,5 +1,6 @@
 -- What every read shows.
 use Rattle.std.specs.Prelude.{if◌then◌else◌, ℕ, List, [], ◌∷◌, ◌++◌, Bool, ◌==◌, ◌&&◌, nat_le, nat_lt, filter, find, length, map, take, Option, Some, None, false, is_some, unwrap_or}
+use Rattle.steps.specs.Table.{Band}
 use Rattle.std.specs.List.{list_any}
 use Rattle.proxy.specs.Bids.{bids_by, greatest, is_leader}
 use Rattle.settle.specs.Statement.{is_party}
@@ -109,7 +110,7 @@ item_page None = Refused Unknown
 item_page (Some it) = OneItem it
 
 -- the page of a band table, if there is one
-abbrev pub table_page : Option (List (ℕ × ℕ)) → Page
+abbrev pub table_page : Option (List Band) → Page
 table_page None = Refused Unknown
 table_page (Some bands) = Bands bands
 

@@ -1,5 +1,6 @@
 -- The tables that a history leaves: the rows of each, in the order of their keys.
 use Rattle.std.specs.Prelude.{ℕ, List, map}
+use Rattle.steps.specs.Table.{Band}
 use Rattle.proxy.specs.Opening.{Opening}
 use Rattle.proxy.specs.Bids.{standing_of}
 use Rattle.proxy.specs.Kept.{Kept}
@@ -51,7 +52,7 @@ abbrev pub edition_for : Tables → ℕ → ℕ
 edition_for t item = edition_in (band_tables t) item
 
 -- the band table of an item, by the tables
-abbrev pub bands_for : Tables → ℕ → List (ℕ × ℕ)
+abbrev pub bands_for : Tables → ℕ → List Band
 bands_for t item = bands_in (band_tables t) item
 
 -- the row of a listed item after a history

@@ -1,5 +1,6 @@
 -- The verdict on a command: the first rule that fails gives the refusal, and where none fails it is accepted.
 use Rattle.std.specs.Prelude.{◌≡◌, ℕ, ◌+◌, List, [], ◌∷◌, ◌++◌, Bool, true, false, not, ◌==◌, ◌&&◌, ◌||◌, nat_le, nat_lt, length, Option, Some, None, is_none, unwrap_or}
+use Rattle.steps.specs.Table.{Band}
 use Rattle.std.specs.List.{list_any}
 use Rattle.steps.specs.Valid.{is_band_table}
 use Rattle.proxy.specs.Bids.{greatest, is_leader}
@@ -164,7 +165,7 @@ feedback_rules caller rating text is_given terms =
     ∷ (is_none rating || not (is_text 0 200 text), Range) ∷ []
 
 -- of a band table, by how many editions there are
-abbrev pub table_rules : List (ℕ × ℕ) → ℕ → List Rule
+abbrev pub table_rules : List Band → ℕ → List Rule
 table_rules bands editions = (not (is_band_table bands), Range) ∷ (nat_le most_editions editions, Limit) ∷ []
 
 -- each command's own rules, by what everybody sees, what the caller has of its own and what waits for it

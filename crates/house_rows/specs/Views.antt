@@ -1,5 +1,6 @@
 -- What everybody sees, what a member has of its own, and what waits for it.
 use Rattle.std.specs.Prelude.{if◌then◌else◌, ℕ, List, [], ◌∷◌, ◌++◌, ◌==◌, filter}
+use Rattle.steps.specs.Table.{Band}
 use Rattle.house_rows.specs.declared.command.Command.{Command}
 use Rattle.house_rows.specs.declared.command.Command.TheVariants.{Bid}
 use Rattle.house_rows.specs.declared.item.ItemShown.{ItemShown}
@@ -27,7 +28,7 @@ pub record Public : Type 0 where
   pub questions : List Question
   pub feedback : List Feedback
   -- the band tables that were set, in order
-  pub tables : List (List (ℕ × ℕ))
+  pub tables : List (List Band)
 
 -- the public view of a history
 abbrev pub public_view : Settings → History → Public

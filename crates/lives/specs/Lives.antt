@@ -1,5 +1,6 @@
 -- The lives of a house's files. Start here.
 use Rattle.std.specs.Prelude.{◌≡◌, ◌⊎◌, ℕ, List, [], ◌∷◌, ◌++◌, false, None}
+use Rattle.steps.specs.Table.{Band}
 use Rattle.auction_runs.specs.Tabled.{MayTable}
 use Rattle.house_laws.specs.Lives.{Life, life_history, lives_history}
 use Rattle.house_rows.specs.Keeping.{IsRead}
@@ -55,7 +56,7 @@ pub record AreInTurn {K : Type 0} (Step : Asked → List ℕ → K → K → Typ
 -- house set a band table at a moment.
 pub data Run : Type 0 where
   Answers : List Asked → List (List ℕ) → Run
-  Sets : ℕ → List (ℕ × ℕ) → Run
+  Sets : ℕ → List Band → Run
 
 -- messages are answered over a keep as it was opened, or after it was read, in which it didn't fail
 abbrev pub IsBegun : {K : Type 0} → keep.Ghosts K → K → K → Type 0
@@ -134,7 +135,7 @@ MayAnswer g image Ends = ((zone : Zone) → IsRunTo g zone image (Answers [] [])
 -- a band table was set, or was not, which is so by whatever zone
 abbrev pub MaySet : {D : Type 0} → (g : disk.Ghosts D) → Image → ℕ → (House (FileStore D g) → Type 0)
     → Type 0
-MaySet g image moment Ends = (bands : List (ℕ × ℕ))
+MaySet g image moment Ends = (bands : List Band)
     × ((zone : Zone) → IsRunTo g zone image (Sets moment bands) Ends)
 
 -- So it is of a keep that was ended, of whose files this was left, or of one that could not be.
@@ -145,7 +146,7 @@ EndsAs g left files Is = Is (Leaves g left) ⊎ Is (λ keep. IsLeft g keep files
 -- ---- their lives
 
 -- the house's command to set a band table, as a message
-abbrev pub setting : ℕ → List (ℕ × ℕ) → Asked
+abbrev pub setting : ℕ → List Band → Asked
 setting moment bands = record { closes = false; message = Write moment 0 (SetBands bands) }
 
 -- the life of a house to which this happened and nothing was in flight

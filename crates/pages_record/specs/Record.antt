@@ -1,5 +1,6 @@
 -- The public record: what everybody may see, in one object.
 use Rattle.std.specs.Prelude.{◌≡◌, ℕ, ◌+◌, List, [], ◌∷◌, ◌++◌, length, codes, Option, unwrap_or}
+use Rattle.steps.specs.Table.{Band}
 use Rattle.std.specs.List.{range_with_len}
 use Rattle.serde_json.specs.Data.{Data, string}
 use Rattle.house_rows.specs.declared.settings.Settings.{Settings}
@@ -18,7 +19,7 @@ use Rattle.pages_json.specs.Words.{array_of, object_of, text_of, whole}
 use Rattle.pages_text.specs.Trees.{band_tree, category_tree, feedback_tree, item_tree, member_tree, question_tree}
 
 -- an edition of the band table, by its number
-abbrev pub edition_tree : ℕ → Option (List (ℕ × ℕ)) → Data
+abbrev pub edition_tree : ℕ → Option (List Band) → Data
 edition_tree n bands = object_of (
     (codes "bands", array_of band_tree (unwrap_or bands []))
     ∷ (codes "edition", whole n) ∷ []

@@ -1,5 +1,6 @@
 -- The tree of everything that is shown. Keys are in byte order.
 use Rattle.std.specs.Prelude.{ℕ, ℤ, pos, negsuc, List, [], ◌∷◌, ◌++◌, Bool, if◌then◌else◌, codes, Option, Some, None}
+use Rattle.steps.specs.Table.{Band}
 use Rattle.serde_json.specs.Data.{Data, boolean, string}
 use Rattle.settle.specs.Calendar.{day_text}
 use Rattle.settle.specs.Statement.{Account, statement_of, totals_of}
@@ -104,7 +105,7 @@ own_reserve_tree r = object_of (
     ∷ (codes "reserve", whole r.reserve) ∷ []
     )
 
-abbrev pub band_tree : ℕ × ℕ → Data
+abbrev pub band_tree : Band → Data
 band_tree band = object_of ((codes "at", whole band.0) ∷ (codes "step", whole band.1) ∷ [])
 
 abbrev pub category_tree : Category → Data

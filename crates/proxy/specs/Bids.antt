@@ -1,6 +1,6 @@
 -- The standing of one item, from the list of its accepted bids, the earliest first. Amounts are cents.
 use Rattle.std.specs.Prelude.{if◌then◌else◌, ℕ, ◌+◌, List, [], ◌∷◌, ◌++◌, length, filter, map, nat_le, nat_lt, ◌==◌, ◌&&◌, not, max, min, Bool, false, Option, Some, None}
-use Rattle.steps.specs.Table.{over}
+use Rattle.steps.specs.Table.{Band, over}
 use Rattle.proxy.specs.declared.bid.Bid.{Bid}
 use Rattle.proxy.specs.declared.bid.BidRefusal.{BidRefusal}
 use Rattle.proxy.specs.declared.bid.BidRefusal.TheVariants.{Low, NotHigher, Full}
@@ -57,7 +57,7 @@ unfoldable pub second : List Bid → Option ℕ
 second bids = greatest_if_any (maxima (others_than (leader bids) bids))
 
 -- what the price is against the second's maximum, by the bids alone
-abbrev pub price_by_bids : List (ℕ × ℕ) → ℕ → ℕ → Option ℕ → ℕ
+abbrev pub price_by_bids : List Band → ℕ → ℕ → Option ℕ → ℕ
 price_by_bids bands start top None = start
 price_by_bids bands start top (Some second) = max start (min top (over bands second))
 
@@ -67,11 +67,11 @@ with_reserve None top price = price
 with_reserve (Some reserve) top price = if nat_le reserve top then max price reserve else price
 
 -- what the price is against the second's maximum
-abbrev pub price_from : List (ℕ × ℕ) → Opening → ℕ → Option ℕ → ℕ
+abbrev pub price_from : List Band → Opening → ℕ → Option ℕ → ℕ
 price_from bands opening top second = with_reserve opening.reserve top (price_by_bids bands opening.start top second)
 
 -- the price: where fewer than two have bid the start, or a reserve that is met
-unfoldable pub price : List (ℕ × ℕ) → Opening → List Bid → ℕ
+unfoldable pub price : List Band → Opening → List Bid → ℕ
 price bands opening bids = price_from bands opening (top bids) (second bids)
 
 -- whether the reserve is met: none without one, else whether there is a top of at least so much
@@ -85,12 +85,12 @@ abbrev pub met : Opening → List Bid → Option Bool
 met opening bids = met_by opening.reserve (greatest_if_any (maxima bids))
 
 -- the floor: the least that a bidder who doesn't lead may bid
-abbrev pub floor : List (ℕ × ℕ) → Opening → List Bid → ℕ
+abbrev pub floor : List Band → Opening → List Bid → ℕ
 floor bands opening [] = opening.start
 floor bands opening (b ∷ bids) = over bands (price bands opening (b ∷ bids))
 
 -- all of it, as it is kept
-abbrev pub standing_of : List (ℕ × ℕ) → Opening → List Bid → Kept
+abbrev pub standing_of : List Band → Opening → List Bid → Kept
 standing_of bands opening bids = record {
   start = opening.start;
   reserve = opening.reserve;
@@ -111,7 +111,7 @@ abbrev pub leads : List Bid → ℕ → Bool
 leads bids member = is_leader (leader bids) member
 
 -- why a bid is refused: a leader has to raise its own maximum, anybody else has to meet the floor, and an item takes 10000 bids
-abbrev pub refusal : List (ℕ × ℕ) → Opening → List Bid → ℕ → ℕ → Option BidRefusal
+abbrev pub refusal : List Band → Opening → List Bid → ℕ → ℕ → Option BidRefusal
 refusal bands opening bids member maximum = first_failing (
     (leads bids member && nat_le maximum (greatest bids member), NotHigher)
     ∷ (not (leads bids member) && nat_lt maximum (floor bands opening bids), Low (floor bands opening bids))

@@ -1,6 +1,6 @@
 //! What the definitions mean, in the subject's own words. No code runs here.
 ghost use Rattle.std.specs.Prelude.{◌≡◌, ◌≢◌, ◌≤◌, ◌<◌, ◌↔◌, ◌++◌, ◌∷◌, ℕ, List, Option, Some, None, IfSome, length, true, false};
-ghost use Rattle.steps.specs.Table.{IsBandTable, over};
+ghost use Rattle.steps.specs.Table.{Band, IsBandTable, over};
 ghost use Rattle.proxy.specs.declared.bid.Bid.{Bid};
 ghost use Rattle.proxy.specs.Opening.{Opening};
 ghost use Rattle.proxy.specs.Bids.{floor, greatest, leader, met, one_more, price, refusal, second, standing_of, top};
@@ -18,14 +18,14 @@ pub fn leader_ranks_first()
 
 /// The price is at least the start, and at most the leader's maximum.
 pub fn price_is_between()
-    ensures start { (bands : List (ℕ × ℕ)) (opening : Opening) (bids : List Bid) → opening.start ≤ price bands opening bids }
-    ensures maximum { (bands : List (ℕ × ℕ)) (opening : Opening) (bids : List Bid) (l : ℕ)
+    ensures start { (bands : List Band) (opening : Opening) (bids : List Bid) → opening.start ≤ price bands opening bids }
+    ensures maximum { (bands : List Band) (opening : Opening) (bids : List Bid) (l : ℕ)
         → AreAccepted bands opening bids → leader bids ≡ Some l → price bands opening bids ≤ greatest bids l }
 {}
 
 /// The price never falls under an accepted bid.
 pub fn price_never_falls()
-    ensures { (bands : List (ℕ × ℕ)) (opening : Opening) (bids : List Bid) (member maximum : ℕ) → IsBandTable bands
+    ensures { (bands : List Band) (opening : Opening) (bids : List Bid) (member maximum : ℕ) → IsBandTable bands
         → refusal bands opening bids member maximum ≡ None
         → price bands opening bids ≤ price bands opening (one_more bids member maximum) }
 {}
@@ -33,13 +33,13 @@ pub fn price_never_falls()
 /// A raise keeps leader and second, and keeps the price unless the old top capped it or the raise
 /// meets the reserve.
 pub fn raise_keeps()
-    ensures leader { (bands : List (ℕ × ℕ)) (opening : Opening) (bids : List Bid) (member maximum : ℕ)
+    ensures leader { (bands : List Band) (opening : Opening) (bids : List Bid) (member maximum : ℕ)
         → refusal bands opening bids member maximum ≡ None → leader bids ≡ Some member
         → leader (one_more bids member maximum) ≡ Some member }
-    ensures second { (bands : List (ℕ × ℕ)) (opening : Opening) (bids : List Bid) (member maximum : ℕ)
+    ensures second { (bands : List Band) (opening : Opening) (bids : List Bid) (member maximum : ℕ)
         → refusal bands opening bids member maximum ≡ None → leader bids ≡ Some member
         → second (one_more bids member maximum) ≡ second bids }
-    ensures price { (bands : List (ℕ × ℕ)) (opening : Opening) (bids : List Bid) (member maximum : ℕ)
+    ensures price { (bands : List Band) (opening : Opening) (bids : List Bid) (member maximum : ℕ)
         → refusal bands opening bids member maximum ≡ None → leader bids ≡ Some member
         → IfSome (second bids) (λ s. over bands s ≤ top bids)
         → met opening (one_more bids member maximum) ≡ met opening bids
@@ -51,16 +51,16 @@ pub fn raise_keeps()
 pub fn reserves_hold()
     ensures stays { (opening : Opening) (bids : List Bid) (member maximum : ℕ)
         → met opening bids ≡ Some true → met opening (one_more bids member maximum) ≡ Some true }
-    ensures met { (bands : List (ℕ × ℕ)) (opening : Opening) (bids : List Bid)
+    ensures met { (bands : List Band) (opening : Opening) (bids : List Bid)
         → met opening bids ≡ Some true → IfSome opening.reserve (λ r. r ≤ price bands opening bids) }
-    ensures unmet { (bands : List (ℕ × ℕ)) (opening : Opening) (bids : List Bid)
+    ensures unmet { (bands : List Band) (opening : Opening) (bids : List Bid)
         → AreAccepted bands opening bids → met opening bids ≡ Some false
         → IfSome opening.reserve (λ r. opening.start < r → price bands opening bids < r) }
 {}
 
 /// A bidder's accepted maxima strictly rise.
 pub fn accepted_bids_rise()
-    ensures { (bands : List (ℕ × ℕ)) (opening : Opening) (before middle later : List Bid) (first second : Bid) → IsBandTable bands
+    ensures { (bands : List Band) (opening : Opening) (before middle later : List Bid) (first second : Bid) → IsBandTable bands
         → AreAccepted bands opening (before ++ first ∷ middle ++ second ∷ later)
         → first.member ≡ second.member → first.maximum < second.maximum }
 {}
@@ -68,7 +68,7 @@ pub fn accepted_bids_rise()
 /// Accepted bids leave a standing that `Standing::of_row` takes.
 #[tactic(auto, using(crate::proofs::Shapes::accepted_shape))]
 pub fn accepted_bids_leave_standings()
-    ensures { (bands : List (ℕ × ℕ)) (opening : Opening) (bids : List Bid) → AreAccepted bands opening bids
+    ensures { (bands : List Band) (opening : Opening) (bids : List Bid) → AreAccepted bands opening bids
         → length bids ≤ 10000 → is_standing bands (standing_of bands opening bids) ≡ true }
 {}
 
@@ -80,19 +80,19 @@ pub fn accepted_bids_leave_standings()
 /// So price, floor and whether the reserve is met are the same, and whoever doesn't lead is answered
 /// the same; and a bid of its own over which one step is at most either top leaves it so.
 pub fn surplus_is_invisible()
-    ensures kept { (bands : List (ℕ × ℕ)) (opening : Opening) (w : ℕ) (left right : List Bid)
+    ensures kept { (bands : List Band) (opening : Opening) (w : ℕ) (left right : List Bid)
         → DifferInTop bands opening.reserve w left right
         → standing_of bands opening right ≡ with_top (top right) (standing_of bands opening left) }
-    ensures floor { (bands : List (ℕ × ℕ)) (opening : Opening) (w : ℕ) (left right : List Bid)
+    ensures floor { (bands : List Band) (opening : Opening) (w : ℕ) (left right : List Bid)
         → DifferInTop bands opening.reserve w left right
         → floor bands opening left ≡ floor bands opening right }
-    ensures met { (bands : List (ℕ × ℕ)) (opening : Opening) (w : ℕ) (left right : List Bid)
+    ensures met { (bands : List Band) (opening : Opening) (w : ℕ) (left right : List Bid)
         → DifferInTop bands opening.reserve w left right
         → met opening left ≡ met opening right }
-    ensures answer { (bands : List (ℕ × ℕ)) (opening : Opening) (w : ℕ) (left right : List Bid) (member maximum : ℕ)
+    ensures answer { (bands : List Band) (opening : Opening) (w : ℕ) (left right : List Bid) (member maximum : ℕ)
         → member ≢ w → DifferInTop bands opening.reserve w left right
         → refusal bands opening left member maximum ≡ refusal bands opening right member maximum }
-    ensures more { (bands : List (ℕ × ℕ)) (reserve : Option ℕ) (w : ℕ) (left right : List Bid) (member maximum : ℕ)
+    ensures more { (bands : List Band) (reserve : Option ℕ) (w : ℕ) (left right : List Bid) (member maximum : ℕ)
         → member ≢ w → over bands maximum ≤ top left → over bands maximum ≤ top right
         → DifferInTop bands reserve w left right
         → DifferInTop bands reserve w (one_more left member maximum) (one_more right member maximum) }

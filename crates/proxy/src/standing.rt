@@ -1,5 +1,6 @@
 //! The standing of one item, kept from bid to bid.
-ghost use Rattle.std.specs.Prelude.{if◌then◌else◌, ◌≡◌, ◌==◌, ◌≤◌, ◌<◌, ℕ, List, [], length, IfSome, is_some, OnOk, OnErr, MatchResult};
+ghost use Rattle.std.specs.Prelude.{if◌then◌else◌, ◌≡◌, ◌==◌, ◌≤◌, ◌<◌, List, [], length, IfSome, is_some, OnOk, OnErr, MatchResult};
+ghost use Rattle.steps.specs.Table.{Band};
 ghost use Rattle.proxy.specs.declared.bid.Bid.{Bid as TheBid};
 ghost use Rattle.proxy.specs.Bids.{floor, met_by, one_more, price_by_bids, refusal, standing_of, with_reserve};
 ghost use Rattle.proxy.specs.Kept.{opening_of};
@@ -74,7 +75,7 @@ pub fn floor_of(bands: &Bands, start: Cents, price: Cents, count: u32) -> u64
 impl Standing {
     /// The standing of an item on which nobody has bid.
     pub fn open(start: Cents, reserve: Option<Cents>) -> Standing
-        ensures { (bands : List (ℕ × ℕ)) → result ≡ standing_of bands (record { start = start; reserve = reserve }) [] }
+        ensures { (bands : List Band) → result ≡ standing_of bands (record { start = start; reserve = reserve }) [] }
     {
         Standing {
             start,

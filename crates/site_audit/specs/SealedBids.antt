@@ -1,5 +1,6 @@
 -- A bid in a list of messages.
 use Rattle.std.specs.Prelude.{◌≡◌, ℕ, ◌+◌, ◌≤◌, ◌<◌, List, ◌∷◌, ◌++◌, ◌==◌, false, length, Option, Some, None, Result, Ok, Err}
+use Rattle.steps.specs.Table.{Band}
 use Rattle.proxy.specs.Kept.{Kept}
 use Rattle.proxy.specs.Surplus.{Covers}
 use Rattle.house_laws.specs.Covered.{Sealed, bid_message, with_maximum}
@@ -33,7 +34,7 @@ pub record IsRaise (y : ℕ) (b : Sealed) (text : Heard) : Type 0 where
 
 -- by what is kept of an item's bids a member leads with that maximum, and it covers what leading
 -- takes
-abbrev pub IsLedKept : List (ℕ × ℕ) → ℕ → ℕ → Kept → Type 0
+abbrev pub IsLedKept : List Band → ℕ → ℕ → Kept → Type 0
 IsLedKept bands w x k = (k.leader ≡ Some w) × (k.top ≡ Some x) × Covers bands k.reserve k.second x
 
 -- the element in that place of a list, which is counted from 1, asks for that bid

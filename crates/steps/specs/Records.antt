@@ -3,7 +3,7 @@ use Rattle.std.specs.Prelude.{if◌then◌else◌, ◌≡◌, ◌≢◌, ◌⊎�
 use Rattle.std.specs.Char.{is_ascii_digit}
 use Rattle.std.specs.List.{list_all}
 use Rattle.std.specs.Str.Parse.{digits_value}
-use Rattle.steps.specs.Table.{IsBandTable}
+use Rattle.steps.specs.Table.{Band, IsBandTable}
 use Rattle.steps.specs.declared.fault.BandsFault.{BandsFault}
 use Rattle.steps.specs.declared.fault.BandsFault.TheVariants.{Csv, Head, Row, First, Order, Falls, TooMany}
 
@@ -22,55 +22,55 @@ number_from least field =
     then Some (digits_value 10 field) else None
 
 -- two numbers, if there are both
-abbrev pub both : Option ℕ → Option ℕ → Option (ℕ × ℕ)
+abbrev pub both : Option ℕ → Option ℕ → Option Band
 both None step = None
 both (Some at_cents) None = None
 both (Some at_cents) (Some step) = Some (at_cents, step)
 
 -- the band that a record spells, as (at, step): an `at` is from 0 and a step from 1
-abbrev pub band_of : List (List ℕ) → Option (ℕ × ℕ)
+abbrev pub band_of : List (List ℕ) → Option Band
 band_of [] = None
 band_of (first ∷ []) = None
 band_of (first ∷ second ∷ []) = both (number_from 0 first) (number_from 1 second)
 band_of (first ∷ second ∷ third ∷ more) = None
 
 -- the last band, after this one
-abbrev pub last_band : ℕ × ℕ → List (ℕ × ℕ) → ℕ × ℕ
+abbrev pub last_band : Band → List Band → Band
 last_band band [] = band
 last_band band (next ∷ bands) = last_band next bands
 
 -- the last band, if there is one
-abbrev pub last_of : List (ℕ × ℕ) → Option (ℕ × ℕ)
+abbrev pub last_of : List Band → Option Band
 last_of [] = None
 last_of (band ∷ bands) = Some (last_band band bands)
 
 -- the band of row n after the last one before it, or its fault
-abbrev pub follows : ℕ → ℕ × ℕ → Option (ℕ × ℕ) → Result (ℕ × ℕ) BandsFault
+abbrev pub follows : ℕ → Band → Option Band → Result Band BandsFault
 follows n band None = if band.0 == 0 then Ok band else Err First
 follows n band (Some last) =
     if nat_le band.0 last.0 then Err (Order n) else if nat_lt band.1 last.1 then Err (Falls n) else Ok band
 
 -- the same of what a record spells
-abbrev pub spelled : ℕ → Option (ℕ × ℕ) → Option (ℕ × ℕ) → Result (ℕ × ℕ) BandsFault
+abbrev pub spelled : ℕ → Option Band → Option Band → Result Band BandsFault
 spelled n None last = Err (Row n)
 spelled n (Some band) last = follows n band last
 
 -- the band of the record after these bands, or the first fault that it has, in the order of judging
-abbrev pub next_band : List (ℕ × ℕ) → List (List ℕ) → Result (ℕ × ℕ) BandsFault
+abbrev pub next_band : List Band → List (List ℕ) → Result Band BandsFault
 next_band bands fields =
     if not (length fields == 2) then Err Csv
     else if nat_le 50 (length bands) then Err TooMany
     else spelled (length bands + 1) (band_of fields) (last_of bands)
 
 -- the records are the head, and then one for each band of a valid table
-pub record IsTable (records : List (List (List ℕ))) (bands : List (ℕ × ℕ)) : Type 0 where
+pub record IsTable (records : List (List (List ℕ))) (bands : List Band) : Type 0 where
   pub rows : List (List (List ℕ))
   pub headed : records ≡ head ∷ rows
-  pub spelled : map band_of rows ≡ map (λ (band : ℕ × ℕ). Some band) bands
+  pub spelled : map band_of rows ≡ map (λ (band : Band). Some band) bands
   pub valid : IsBandTable bands
 
 -- no bands, or a valid table: what the records before a fault spell
-abbrev pub AreBands : List (ℕ × ℕ) → Type 0
+abbrev pub AreBands : List Band → Type 0
 AreBands bands = (bands ≡ []) ⊎ IsBandTable bands
 
 -- some record has this fault, and no record before it has one
@@ -78,9 +78,9 @@ pub record HasFaultyRow (records : List (List (List ℕ))) (fault : BandsFault) 
   pub before : List (List (List ℕ))
   pub faulty : List (List ℕ)
   pub after : List (List (List ℕ))
-  pub bands : List (ℕ × ℕ)
+  pub bands : List Band
   pub headed : records ≡ head ∷ (before ++ faulty ∷ after)
-  pub spelled : map band_of before ≡ map (λ (band : ℕ × ℕ). Some band) bands
+  pub spelled : map band_of before ≡ map (λ (band : Band). Some band) bands
   pub valid : AreBands bands
   pub refused : next_band bands faulty ≡ Err fault
 
@@ -90,6 +90,6 @@ HasFault records fault =
     ((fault ≡ Head) × ((rows : List (List (List ℕ))) → records ≢ head ∷ rows)) ⊎ HasFaultyRow records fault ⊎ ((fault ≡ First) × (records ≡ head ∷ []))
 
 -- what is answered of the records: a table as its bands, and else the first fault
-pub record IsJudged (records : List (List (List ℕ))) (answer : Result (List (ℕ × ℕ)) BandsFault) : Type 0 where
-  pub ok : (bands : List (ℕ × ℕ)) → (answer ≡ Ok bands) ↔ IsTable records bands
+pub record IsJudged (records : List (List (List ℕ))) (answer : Result (List Band) BandsFault) : Type 0 where
+  pub ok : (bands : List Band) → (answer ≡ Ok bands) ↔ IsTable records bands
   pub fault : (fault : BandsFault) → (answer ≡ Err fault) ↔ HasFault records fault

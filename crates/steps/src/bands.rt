@@ -35,10 +35,10 @@ pub struct Bands {
 }
 
 impl Model for Bands {
-    ghost use Rattle.std.specs.Prelude.{ℕ, List};
-    ghost use Rattle.steps.specs.Table.{IsBandTable};
+    ghost use Rattle.std.specs.Prelude.{List};
+    ghost use Rattle.steps.specs.Table.{Band, IsBandTable};
 
-    ghost Value = { List (ℕ × ℕ) };
+    ghost Value = { List Band };
 
     ghost view = { λ b. b.rows.items };
 

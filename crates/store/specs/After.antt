@@ -1,6 +1,6 @@
 -- What a change makes of what a keep knows.
 use Rattle.std.specs.Prelude.{◌<◌, ◌≤◌, ◌+◌, ◌++◌, ◌∷◌, [], ℕ, List, Option, Some, None, All, length}
-use Rattle.steps.specs.Table.{IsBandTable}
+use Rattle.steps.specs.Table.{Band, IsBandTable}
 use Rattle.house_rows.specs.Editions.{BandTables}
 use Rattle.house_rows.specs.Limits.{most_editions, most_items}
 use Rattle.house_rows.specs.declared.change.Change.{Change}
@@ -42,7 +42,7 @@ clock_after clock (Feedback moment item from to rating text) = moment
 clock_after clock (SetBands moment bands) = moment
 
 -- the band table that a change sets, if it sets one
-abbrev pub bands_set : Change → Option (List (ℕ × ℕ))
+abbrev pub bands_set : Change → Option (List Band)
 bands_set (Register moment name) = None
 bands_set (AddCategory moment name) = None
 bands_set (Listed moment item) = None
@@ -58,7 +58,7 @@ bands_set (Feedback moment item from to rating text) = None
 bands_set (SetBands moment bands) = Some bands.now
 
 -- with one band table more, if there is one, which begins with the item after so many
-abbrev pub with_table : BandTables → ℕ → Option (List (ℕ × ℕ)) → BandTables
+abbrev pub with_table : BandTables → ℕ → Option (List Band) → BandTables
 with_table b items None = b
 with_table b items (Some bands) = record {
   settings = b.settings;

@@ -1,5 +1,6 @@
 -- What a house in SQLite is to its callers.
 use Rattle.std.specs.Prelude.{◌≡◌, ℕ, List, Bool, false, refl}
+use Rattle.steps.specs.Table.{Band}
 use Rattle.std.specs.Coded.{Coded, code_by, coded×, coded_ℕ, coded_bool, coded_list}
 use Rattle.sqlite_trees.specs.declared.store.Store.{Ghosts}
 use Rattle.sqlite_trees.specs.Tree.{Trees}
@@ -32,14 +33,14 @@ pub record House (S : Type 0) : Type 0 where
 -- settings, editions, reserves, counts and a house are stored as the tuples of their fields
 abbrev pub settings_code : Coded Settings
 settings_code =
-    code_by (List (ℕ × ℕ) × (ℕ × List ℕ)) (coded× (coded_list (coded× coded_ℕ coded_ℕ)) (coded× coded_ℕ (coded_list coded_ℕ)))
+    code_by (List Band × (ℕ × List ℕ)) (coded× (coded_list (coded× coded_ℕ coded_ℕ)) (coded× coded_ℕ (coded_list coded_ℕ)))
     (λ s. (s.bands, (s.rate, s.zone)))
     (λ p. record { bands = p.0; rate = p.1.0; zone = p.1.1 })
     (λ _. refl)
 
 abbrev pub edition_code : Coded Edition
 edition_code =
-    code_by (ℕ × (ℕ × List (ℕ × ℕ))) (coded× coded_ℕ (coded× coded_ℕ (coded_list (coded× coded_ℕ coded_ℕ))))
+    code_by (ℕ × (ℕ × List Band)) (coded× coded_ℕ (coded× coded_ℕ (coded_list (coded× coded_ℕ coded_ℕ))))
     (λ e. (e.edition, (e.first, e.bands)))
     (λ p. record { edition = p.0; first = p.1.0; bands = p.1.1 })
     (λ _. refl)

@@ -1,5 +1,6 @@
 -- What the rows of a new house are, and what each write adds.
 use Rattle.std.specs.Prelude.{◌≡◌, ◌≢◌, ◌<◌, true, ℕ, List, [], ◌∷◌, ◌++◌, map, All}
+use Rattle.steps.specs.Table.{Band}
 use Rattle.std.specs.List.{AllByRecursion}
 use Rattle.sqlite.specs.Effect.{Database}
 use Rattle.house_rows.specs.Tables.{tables_of}
@@ -18,7 +19,7 @@ abbrev pub new_house : ℕ → List ℕ → HouseRow
 new_house rate zone = record { id = 1; version = 2; clock = 0; rate = rate; zone = zone }
 
 -- a band as a row
-abbrev pub band_row : ℕ × ℕ → BandRow
+abbrev pub band_row : Band → BandRow
 band_row band = record { from = band.0; step = band.1 }
 
 -- the row of the house, the last where its number is over every other
@@ -34,7 +35,7 @@ pub record AddsBand (from step : ℕ) (old new : Database) : Type 0 where
   pub bands : All (λ b. b.from < from) (bands_in old.trees) → bands_in new.trees ≡ bands_in old.trees ++ band_row (from, step) ∷ []
 
 -- a house with these bands, of which no other table has a row
-pub record IsBanded (bands : List (ℕ × ℕ)) (db : Database) : Type 0 where
+pub record IsBanded (bands : List Band) (db : Database) : Type 0 where
   pub house : IsHouse db
   pub bands_are : bands_in db.trees ≡ map band_row bands
   pub empty : AllByRecursion (λ t. t.tree ≢ 1 → db.trees t.tree ≡ []) house_schema.tables

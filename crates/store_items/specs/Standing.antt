@@ -1,5 +1,6 @@
 -- Items that are consistent, as a reader of their rows tests it.
 use Rattle.std.specs.Prelude.{◌≡◌, ◌≤◌, ◌<◌, ◌+◌, ℕ, Bool, true, false, ◌==◌, ◌&&◌, ◌||◌, List, length, Option, Some, None, is_none, is_some, nat_le, nat_lt, IfSome}
+use Rattle.steps.specs.Table.{Band}
 use Rattle.sqlite_value.specs.Order.{Row, column}
 use Rattle.proxy.specs.Rows.{is_shape}
 use Rattle.house_rows.specs.declared.item.Terms.{Terms}
@@ -30,16 +31,16 @@ is_reserve t None = true
 is_reserve t (Some amount) = nat_lt t.start amount && is_at_most t.buy_now amount
 
 -- by what is sealed of their bids, the terms are consistent: as a purchase, or as a standing
-abbrev pub is_reported : List (ℕ × ℕ) → Terms → Option ℕ → Option ℕ → Option ℕ → Bool
+abbrev pub is_reported : List Band → Terms → Option ℕ → Option ℕ → Option ℕ → Bool
 is_reported bands t reserve top second = (is_none top && is_none second && is_bought t)
     || is_shape bands (record { start = t.start; reserve = reserve }) t.price t.count t.leader top second
 
 -- by the reserve and by what is sealed of their bids, the terms are consistent
-abbrev pub is_consistent : List (ℕ × ℕ) → Terms → Option ℕ → Option ℕ → Option ℕ → Bool
+abbrev pub is_consistent : List Band → Terms → Option ℕ → Option ℕ → Option ℕ → Bool
 is_consistent bands t reserve top second = is_reserve t reserve && is_reported bands t reserve top second
 
 -- the columns from one on hold what is sealed, and the terms are consistent with it
-pub record AreSealed (bands : List (ℕ × ℕ)) (reserve : Option ℕ) (at : ℕ) (r : Row) : Type 0 where
+pub record AreSealed (bands : List Band) (reserve : Option ℕ) (at : ℕ) (r : Row) : Type 0 where
   pub wide : at + 1 < length r
   pub top : IfSome (maybe_number_in (column r at)) (λ n. n ≤ most_cents)
   pub second : IfSome (maybe_number_in (column r (at + 1))) (λ n. n ≤ most_cents)

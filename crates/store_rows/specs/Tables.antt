@@ -1,5 +1,6 @@
 -- The tables of the house that a database holds.
 use Rattle.std.specs.Prelude.{◌≡◌, ◌≤◌, ◌+◌, ◌==◌, true, ℕ, List, [], ◌∷◌, ◌++◌, Option, Some, None, map, filter, find, length, All, is_some, unwrap_or, IsTrue}
+use Rattle.steps.specs.Table.{Band}
 use Rattle.sqlite_trees.specs.Tree.{Trees}
 use Rattle.sqlite.specs.Effect.{Database}
 use Rattle.sqlite.specs.State.{State, HasCleanDisk}
@@ -30,7 +31,7 @@ settings_in db = record {
 }
 
 -- the bands of an edition among those of all, as they were written
-abbrev pub bands_at : ℕ → List LaterBandRow → List (ℕ × ℕ)
+abbrev pub bands_at : ℕ → List LaterBandRow → List Band
 bands_at edition bands = map (λ b. (b.from, b.step)) (filter (λ b. b.edition == edition) bands)
 
 -- editions with their bands
