@@ -23,7 +23,7 @@ STEPS = {
     "body": ["site_bodies::", *(f"site_request::{name}::" for name in ("commands", "field", "fields"))],
     "decision": ["house::", "proxy::"],
     "change of the tables": ["store_list::", "list_"],
-    "the answer, and its bytes": ["site_results::", "site_replies::", "pages_text::", "pages_json::", "wire::answer", "itoa::"],
+    "the answer, and its bytes": ["site_results::", "site_replies::", "pages_text::", "pages_json::", "wire::response", "itoa::"],
     "reading and writing": ["device::", "site_serve::"],
     "the rest of a message": ["site::", "site_request::", "site_acts::"],
 }

@@ -87,9 +87,9 @@ BODIES = [
     Body("statement", ACCOUNT, "Ok(statement) => Ok(statement),", "Ok(_) => Err(StatementFault::Memory),", OFFICE),
     Body("import", IMPORTS, "Ok(lot) => list(room, site, by, &lot, number, output),", "Ok(_) => Err(ImportFault::Memory),",
          OFFICE),
-    Body("replay", REPLAY, "answer_over(alloc, source, sink, &mut site, asked)", REPLAYED, RUNS),
+    Body("replay", REPLAY, "reply_over(alloc, source, sink, &mut site, asked)", REPLAYED, RUNS),
     Body("replay-record", REPLAY, "append_record(sink, site)\n", f"{REPLAYED}\n", RUNS),
-    Body("replay-setup", SETUP, "check_answer(&site.answer(message.as_bytes()))", REPLAYED, RUNS),
+    Body("replay-setup", SETUP, "check_reply(&site.reply(message.as_bytes()))", REPLAYED, RUNS),
     *(Body(f"command-{name}", DECIDING, call, with_arrow(call, MEMORY), RUNS if name == "unwatch" else SHOWN)
       for name, call in CALLS.items()),
     *(Body(f"page-{name}", READING, call, with_arrow(call, MEMORY), SHOWN) for name, call in PAGES.items()),

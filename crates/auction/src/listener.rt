@@ -12,7 +12,7 @@ use std::time::Duration;
 // How many seconds a connection may be still before it is given up.
 const STILL: u64 = 30;
 
-// How many pieces are thrown away of what comes after the last answer.
+// How many pieces are thrown away of what comes after the last reply.
 const PIECES: u32 = 60;
 
 /// The connections of a listener. None of them says what its bytes are.
@@ -54,7 +54,7 @@ impl Listener {
 }
 
 // A connection that is given up where it is still, for reading and for writing. The last piece of its
-// answers is sent at once, and not held back until the one before is acknowledged (RFC 896).
+// replies is sent at once, and not held back until the one before is acknowledged (RFC 896).
 fn set_up(stream: &TcpStream) -> io::Result<Connection<Reading<Steady>, Writing<Steady>>> {
     let still = Some(Duration::from_secs(STILL));
     stream.set_read_timeout(still)?;
@@ -66,7 +66,7 @@ fn set_up(stream: &TcpStream) -> io::Result<Connection<Reading<Steady>, Writing<
     })
 }
 
-// Lets the peer read its answers: one whose connection is closed over bytes that were not read may
+// Lets the peer read its replies: one whose connection is closed over bytes that were not read may
 // lose them (RFC 9112, 9.6).
 fn hang_up(stream: &TcpStream) {
     let mut reader = stream;

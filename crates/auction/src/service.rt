@@ -4,21 +4,21 @@ ghost use Rattle.auction.specs.Remains.{IsEndedAs, IsLeftAs};
 ghost use Rattle.auction_runs.specs.Faults.{IsOfKeep};
 ghost use Rattle.auction_runs.specs.Runs.{HasAnswered, HasDone, HasServed, IsServedOver, IsServingFault, MayHaveAnswered};
 ghost use Rattle.settle.specs.Zoned.{IsZoneOf};
-ghost use Rattle.site.specs.Answers.{zone_of};
+ghost use Rattle.site.specs.Replies.{zone_of};
 ghost use Rattle.site_connections.specs.Turns.{Takes};
 ghost use Rattle.site_serve.specs.Serving.{keep_of};
 
 use crate::houses::KeepInFile;
 use crate::listener::Listen;
 use crate::remains::{Remains, refuse_house};
-use auction_runs::{MOST, TaskFault, answer_each, begin_site, serve_run};
+use auction_runs::{MOST, TaskFault, begin_site, serve_connections, serve_run};
 use auction_words::Serve;
 use device::Writing;
 use site::Site;
 use std::alloc::Global;
 
-// Answers connections over a site, and gives its keep back.
-fn answer_site<K: KeepInFile, C: Listen>(
+// Serves connections over a site, and gives its keep back.
+fn serve_site<K: KeepInFile, C: Listen>(
     rt: &HostRuntime,
     alloc: Global,
     site: Site<K>,
@@ -36,15 +36,15 @@ fn answer_site<K: KeepInFile, C: Listen>(
 {
     match C::listen(rt, asked.port, asked.count) {
         Ok(mut connections) => {
-            answer_each(alloc, &mut connections, asked.count, &mut rt.stdout(), site)
+            serve_connections(alloc, &mut connections, asked.count, &mut rt.stdout(), site)
         }
         Err(_) => (Err(TaskFault::Socket), site.end()),
     }
 }
 
-// Answers connections over a keep, and gives it back. That its zone can't be read is reported before
+// Serves connections over a keep, and gives it back. That its zone can't be read is reported before
 // that nobody can listen.
-fn answer_keep<K: KeepInFile, C: Listen>(
+fn serve_over<K: KeepInFile, C: Listen>(
     rt: &HostRuntime,
     alloc: Global,
     keep: K,
@@ -60,12 +60,12 @@ fn answer_keep<K: KeepInFile, C: Listen>(
         asked.count keep result.1 }
 {
     match begin_site(alloc, keep) {
-        Ok(site) => answer_site::<K, C>(rt, alloc, site, asked),
+        Ok(site) => serve_site::<K, C>(rt, alloc, site, asked),
         Err((fault, keep)) => (Err(fault), keep),
     }
 }
 
-// Answers connections over a keep, and ends it.
+// Serves connections over a keep, and ends it.
 fn serve_keep<K: KeepInFile, C: Listen>(
     rt: &HostRuntime,
     alloc: Global,
@@ -80,7 +80,7 @@ fn serve_keep<K: KeepInFile, C: Listen>(
         asked.count keep result.1 }
     ensures within { result.0 ≤ 1 }
 {
-    let (answered, keep) = answer_keep::<K, C>(rt, alloc, keep, asked);
+    let (answered, keep) = serve_over::<K, C>(rt, alloc, keep, asked);
     serve_run(
         &mut rt.stdout(),
         &mut Writing::new(rt.stderr()),
@@ -90,7 +90,7 @@ fn serve_keep<K: KeepInFile, C: Listen>(
     )
 }
 
-/// Answers connections over the house in a file.
+/// Serves connections over the house in a file.
 pub(crate) fn serve_file<K: KeepInFile, C: Listen>(
     rt: &HostRuntime,
     alloc: Global,

@@ -12,7 +12,7 @@ use Rattle.device.specs.Given.{AppendsBeginning}
 use Rattle.house_rows.specs.declared.keep.Keep as keep
 use Rattle.settle.specs.Zoned.{IsZoneOf}
 use Rattle.settle.specs.declared.zone.Zone.{Zone}
-use Rattle.site.specs.Answers.{IsStep}
+use Rattle.site.specs.Replies.{IsStep}
 use Rattle.site_serve.specs.Serving.{HasRead, HasServed, HasWritten}
 use Rattle.site_serve.specs.declared.server.ServeFault.{ServeFault}
 use Rattle.site_serve.specs.declared.server.ServeFault.TheVariants.{Memory, Read, Write}

@@ -2,7 +2,7 @@
 use Rattle.std.proofs.Common.{◌≡◌, ℕ, List, Bool, Option, subst}
 use Rattle.house_rows.specs.Tables.{Tables}
 use Rattle.settle.specs.declared.zone.Zone.{Zone}
-use Rattle.site.specs.Answers.{IsStep}
+use Rattle.site.specs.Replies.{IsStep}
 use Rattle.site_serve.specs.Serving.{HasServed}
 use Rattle.site_serve.specs.declared.server.Served.{Served}
 use Rattle.auction_runs.specs.Setup.{IsTaken}

@@ -15,7 +15,7 @@ use Rattle.office.specs.declared.outcome.Outcome.TheVariants.{Refused}
 use Rattle.office.specs.declared.tally.Imported.{Imported}
 use Rattle.settle.specs.Zoned.{IsZoneOf}
 use Rattle.settle.specs.declared.zone.Zone.{Zone}
-use Rattle.site.specs.Answers.{IsStep}
+use Rattle.site.specs.Replies.{IsStep}
 use Rattle.site_request.specs.declared.asked.Asked.{Asked}
 use Rattle.steps.specs.Reading.{records_of}
 use Rattle.auction_runs.specs.Faults.{fault_of_import}

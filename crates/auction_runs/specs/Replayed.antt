@@ -10,7 +10,7 @@ use Rattle.house_rows.specs.Tables.{Tables, tables_of}
 use Rattle.pages_record.specs.Record.{record_text}
 use Rattle.settle.specs.Zoned.{IsZoneOf}
 use Rattle.settle.specs.declared.zone.Zone.{Zone}
-use Rattle.site.specs.Answers.{IsStep}
+use Rattle.site.specs.Replies.{IsStep}
 use Rattle.site_serve.specs.Serving.{HasRead, HasServed, HasWritten}
 use Rattle.site_serve.specs.declared.server.Served.{Served}
 use Rattle.auction_runs.specs.Setup.{IsSetUp}
@@ -83,7 +83,7 @@ pub record IsUnrecorded {K : Type 0} (k : keep.Ghosts K) (zone : Zone) (stream :
       stream all_messages before between begun ended served
   pub recorded : IsRecordedPart k between after ended
 
--- what was written where the source failed, the sink did in an answer, or the record wasn't written whole
+-- what was written where the source failed, the sink did in a reply, or the record wasn't written whole
 abbrev pub IsServedPart : {K : Type 0} → keep.Ghosts K → Zone → Option (List ℕ) → Option (List ℕ)
     → Option (List ℕ) → Option (List ℕ) → K → K → Type 0
 IsServedPart k zone left now before after begun ended =

@@ -26,7 +26,7 @@ setup_texts = member_text (codes "Ana")
     ++ codes "\"lot\":\"A1\",\"start\":500,\"text\":\"\",\"title\":\"Atlas\"}")
     ∷ []
 
--- an answer with status 201
+-- a reply with status 201
 abbrev pub IsCreated : List ℕ → Type 0
 IsCreated reply = (rest : List ℕ) × (reply ≡ codes "HTTP/1.1 201 " ++ rest)
 

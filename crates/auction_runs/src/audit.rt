@@ -5,7 +5,7 @@ ghost use Rattle.auction_runs.specs.Audited.{Finds, HasAudited, HasMessages, Has
 ghost use Rattle.auction_runs.specs.Faults.{IsOfKeep, fault_of_messages};
 ghost use Rattle.auction_runs.specs.Printed.{apart_line, equal_line};
 ghost use Rattle.settle.specs.Zoned.{IsZoneOf};
-ghost use Rattle.site.specs.Answers.{zone_of};
+ghost use Rattle.site.specs.Replies.{zone_of};
 ghost use Rattle.site_serve.specs.Serving.{keep_of};
 
 use crate::fault::{Side, TaskFault, finish_run};

@@ -7,7 +7,7 @@ ghost use Rattle.auction_runs.specs.Listed.{HasAll, HasDealt, HasOrderedOnly, Ha
 ghost use Rattle.auction_runs.specs.declared.fault.TaskFault.{TaskFault as ReportedFault};
 ghost use Rattle.office.specs.declared.fault.ImportFault.{ImportFault as TheFault};
 ghost use Rattle.office.specs.declared.tally.Imported.{Imported as TheReport};
-ghost use Rattle.site.specs.Answers.{IsReadable};
+ghost use Rattle.site.specs.Replies.{IsReadable};
 ghost use Rattle.house_rows.specs.Answers.{Reads};
 
 use crate::ended::outcome_after_end;

@@ -1,4 +1,4 @@
-//! `replay`: the answers to the messages of an input, over a new house.
+//! `replay`: the replies to the messages of an input, over a new house.
 ghost use Rattle.auction_runs.specs.Lines.{IsReported};
 ghost use Rattle.std.specs.Prelude.{◌≡◌, ◌≤◌, ◌++◌, ◌∷◌, [], false, true, IfErr, IfSome, IsErr, OnErr, OnOk};
 ghost use Rattle.std.specs.Io.KnownBytes.{Appends};
@@ -7,7 +7,7 @@ ghost use Rattle.auction_runs.specs.Faults.{IsOfKeep, IsOfReplay};
 ghost use Rattle.auction_runs.specs.Replayed.{HasRecorded, HasReplayed, IsRecorded, IsRecordedPart, IsReplayedPart};
 ghost use Rattle.auction_runs.specs.Setup.{IsSetUp};
 ghost use Rattle.settle.specs.Zoned.{IsZoneOf};
-ghost use Rattle.site.specs.Answers.{zone_of};
+ghost use Rattle.site.specs.Replies.{zone_of};
 ghost use Rattle.site.specs.Histories.{Steps};
 ghost use Rattle.site_serve.specs.Serving.{IsFlushed, keep_of};
 
@@ -84,7 +84,7 @@ fn finish<W: Sink, K: Keep + Drop>(
 }
 
 // Answers all messages of the source over a site, whose zone is that of its keep.
-fn answer_over<R: Source, W: Sink, K: Keep + Drop>(
+fn reply_over<R: Source, W: Sink, K: Keep + Drop>(
     alloc: Global,
     source: &mut R,
     sink: &mut W,
@@ -110,7 +110,7 @@ fn answer_over<R: Source, W: Sink, K: Keep + Drop>(
 }
 
 // Answers all messages of the source.
-fn answer_all<R: Source, W: Sink, K: Keep + Drop>(
+fn reply_all<R: Source, W: Sink, K: Keep + Drop>(
     alloc: Global,
     source: &mut R,
     sink: &mut W,
@@ -127,12 +127,12 @@ fn answer_all<R: Source, W: Sink, K: Keep + Drop>(
         (IsOfReplay (R.has_failed source.new) (W.has_failed sink.new)) }
 {
     let mut site = site_over(alloc, keep)?;
-    answer_over(alloc, source, sink, &mut site, asked)
+    reply_over(alloc, source, sink, &mut site, asked)
 }
 
 /// Answers all messages of a source over a new house, and gives the exit status. A fault is written
 /// in its line on `errors`. However the stream ends, the record that was asked for follows the last
-/// answer; where a device fails there is none. What was written before a fault is a beginning of it.
+/// reply; where a device fails there is none. What was written before a fault is a beginning of it.
 pub fn replay_run<R: Source, W: Sink, K: Keep + Drop, E: Sink>(
     alloc: Global,
     source: &mut R,
@@ -152,5 +152,5 @@ pub fn replay_run<R: Source, W: Sink, K: Keep + Drop, E: Sink>(
         errors.old errors.new result }
     ensures within { result ≤ 1 }
 {
-    finish_run(errors, answer_all(alloc, source, sink, keep, asked))
+    finish_run(errors, reply_all(alloc, source, sink, keep, asked))
 }

@@ -1,4 +1,4 @@
-//! `serve`: the answers to the messages of connections, one connection after the other.
+//! `serve`: the replies to the messages of connections, one connection after the other.
 ghost use Rattle.auction_runs.specs.Lines.{IsReported, IsTold};
 ghost use Rattle.std.specs.Prelude.{◌≡◌, ◌≤◌, ◌⊎◌, Err, IfErr, IfOk, IsOk, OnOk};
 ghost use Rattle.std.specs.Io.KnownBytes.{Appends};
@@ -7,7 +7,7 @@ ghost use Rattle.auction_runs.specs.Over.{IsOver};
 ghost use Rattle.auction_runs.specs.Printed.{listening, served};
 ghost use Rattle.auction_runs.specs.Served.{StopsServing};
 ghost use Rattle.settle.specs.Zoned.{IsZoneOf};
-ghost use Rattle.site.specs.Answers.{zone_of};
+ghost use Rattle.site.specs.Replies.{zone_of};
 ghost use Rattle.site_connections.specs.Turns.{Takes, TakesEach, TakesWell};
 ghost use Rattle.site_serve.specs.Serving.{keep_of};
 
@@ -121,7 +121,7 @@ fn listen<W: Write, C: Connections, K: Keep + Drop>(
 ///
 /// None is taken after one in which the keep failed: that is the fault `Store`. `Socket` is that
 /// accepting failed, and `Write` that the report could not be written, before any was taken.
-pub fn answer_each<W: Write, C: Connections, K: Keep + Drop>(
+pub fn serve_connections<W: Write, C: Connections, K: Keep + Drop>(
     alloc: Global,
     connections: &mut C,
     count: u64,

@@ -2,7 +2,7 @@
 ghost use Rattle.std.specs.Prelude.{◌≡◌, true, IfErr, OnOk};
 ghost use Rattle.auction_runs.specs.Faults.{IsOfKeep};
 ghost use Rattle.auction_runs.specs.Setup.{IsCreated, IsSetUp, IsTaken};
-ghost use Rattle.site.specs.Answers.{zone_of};
+ghost use Rattle.site.specs.Replies.{zone_of};
 ghost use Rattle.site.specs.Histories.{Steps};
 ghost use Rattle.site_serve.specs.Serving.{keep_of};
 
@@ -32,16 +32,16 @@ pub(crate) const ATLAS: &str =
     content-length: 74\r\n\r\n\
     {\"category\":1,\"end\":5000,\"lot\":\"A1\",\"start\":500,\"text\":\"\",\"title\":\"Atlas\"}";
 
-// Whether a message of the setup was taken, by its answer.
-fn check_answer(answer: &[u8]) -> Result<(), TaskFault>
-    ensures taken { OnOk result (IsCreated answer.now) }
+// Whether a message of the setup was taken, by its reply.
+fn check_reply(reply: &[u8]) -> Result<(), TaskFault>
+    ensures taken { OnOk result (IsCreated reply.now) }
     ensures fault { IfErr result IsOfKeep }
 {
-    if answer.starts_with(b"HTTP/1.1 201 ") {
+    if reply.starts_with(b"HTTP/1.1 201 ") {
         Ok(())
-    } else if answer == no_memory(false) {
+    } else if reply == no_memory(false) {
         Err(TaskFault::Memory)
-    } else if answer == failed_store(false) {
+    } else if reply == failed_store(false) {
         Err(TaskFault::Store)
     } else {
         Err(TaskFault::Damaged)
@@ -56,7 +56,7 @@ fn send<K: Keep + Drop>(site: &mut Site<K>, message: &str) -> Result<(), TaskFau
     ensures fault { IfErr result IsOfKeep }
     ensures zone { zone_of site.new ≡ zone_of site.old }
 {
-    check_answer(&site.answer(message.as_bytes()))
+    check_reply(&site.reply(message.as_bytes()))
 }
 
 /// Sets a new house up: three members, a category and an item of the first member.

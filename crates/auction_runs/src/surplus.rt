@@ -3,7 +3,7 @@ ghost use Rattle.std.specs.Prelude.{◌≡◌, ◌≤◌, true, IfErr, IfOk, OnO
 ghost use Rattle.std.specs.Io.KnownBytes.{Appends};
 ghost use Rattle.auction_runs.specs.Printed.{not_covered_line, same_line};
 ghost use Rattle.auction_runs.specs.Raised.{HasShown, HasTried, IsShown, IsUnshown, IsUntried, TellsOf};
-ghost use Rattle.site.specs.Answers.{zone_of};
+ghost use Rattle.site.specs.Replies.{zone_of};
 ghost use Rattle.site_serve.specs.Serving.{keep_of};
 
 use crate::audit::{Houses, both_begun, messages, status};

@@ -9,7 +9,7 @@ ghost use Rattle.std.specs.Prelude.{◌≤◌, length};
 use std::alloc::{AllocError, Global};
 use std::process::ExitCode;
 use std::rt::Env;
-use wire::{Answer, Inbox, Look, Request, Status};
+use wire::{Inbox, Look, Request, Response, Status};
 
 const BID: &[u8] =
     b"POST /items/1/bids HTTP/1.1\r\nhost: h\r\nx-member: 2\r\nx-moment: 1001\r\ncontent-length: 15\r\n\r\n{\"maximum\":500}";
@@ -82,19 +82,19 @@ fn frames(alloc: Global, rounds: u64, asks: bool) -> Result<usize, AllocError> {
     Ok(sum)
 }
 
-fn answers(alloc: Global, rounds: u64) -> Result<usize, AllocError> {
+fn responses(alloc: Global, rounds: u64) -> Result<usize, AllocError> {
     let mut out = Vec::new(alloc);
     let mut sum = 0usize;
     for _ in 0..rounds {
         out.clear();
         for place in 0..AT_A_TIME {
-            let answer = Answer {
+            let response = Response {
                 status: Status::Created,
                 allow: None,
                 closes: false,
                 body: &BODY[..BODY.len() - place % 2],
             };
-            answer.write_into(&mut out)?;
+            response.write_into(&mut out)?;
         }
         sum = sum.wrapping_add(out.len());
     }
@@ -113,7 +113,7 @@ fn sum_of(rt: &(impl Env + AllocGlobal), alloc: Global) -> Result<usize, AllocEr
     match what.as_str() {
         "frames" => frames(alloc, rounds, false),
         "asks" => frames(alloc, rounds, true),
-        _ => answers(alloc, rounds),
+        _ => responses(alloc, rounds),
     }
 }
 

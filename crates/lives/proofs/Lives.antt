@@ -13,7 +13,7 @@ use Rattle.house_rows.specs.Verdict.{IsHistory, verdict}
 use Rattle.lives.specs.Lives.{Answers, AreRuns, Does, FindsHistory, HasAnswered, HoldHistory, IsBegun, IsRun, IsUnended, LeaveHistories, LeavesHistory, MayFind, Run, Sets, life_of, over_disk, setting}
 use Rattle.settle.specs.declared.zone.Zone.{Zone}
 use Rattle.site.proofs.Left.{leaves_a_life}
-use Rattle.site.specs.Answers.{IsStep}
+use Rattle.site.specs.Replies.{IsStep}
 use Rattle.site.specs.Lives.{LeavesALife}
 use Rattle.site.specs.Runs.{InTurn, meant}
 use Rattle.site_request.specs.declared.asked.Asked.{Asked}

@@ -15,7 +15,7 @@ use Rattle.house_rows.specs.declared.settings.Settings.{Settings}
 use Rattle.office.specs.declared.lister.Lister.{Lister}
 use Rattle.settle.specs.Zoned.{IsZoneOf}
 use Rattle.settle.specs.declared.zone.Zone.{Zone}
-use Rattle.site.specs.Answers.{IsStep}
+use Rattle.site.specs.Replies.{IsStep}
 use Rattle.site_connections.specs.Turns.{Takes}
 use Rattle.site_connections.specs.declared.connection.Connection.{Connection}
 use Rattle.site_serve.specs.declared.server.ServeFault.{ServeFault}

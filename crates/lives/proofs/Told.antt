@@ -10,7 +10,7 @@ use Rattle.house_rows.specs.History.{History}
 use Rattle.house_rows.specs.Runs.{reply}
 use Rattle.house_rows.specs.Verdict.{verdict}
 use Rattle.settle.specs.declared.zone.Zone.{Zone}
-use Rattle.site.specs.Lives.{IsLifeOf, answers_to_from}
+use Rattle.site.specs.Lives.{IsLifeOf, replies_to_from}
 use Rattle.site.specs.Runs.{at_places, meant, rendered}
 use Rattle.site_request.specs.declared.asked.Asked.{Asked}
 use Rattle.site_replies.specs.Texts.{fault_text}
@@ -21,7 +21,7 @@ told_in : (settings : Settings) (zone : Zone) (c : ℕ) (h : History) (asked : L
     (replies : List (List ℕ)) (served : List Asked) (flight : Option (InFlight Asked))
     → IsLifeOf settings zone h asked replies served flight
     → IsTold c (Answers asked replies) (record { answered = served; in_flight = flight })
-    (answers_to_from settings zone c h served)
+    (replies_to_from settings zone c h served)
 told_in settings zone c h asked replies served None answered =
     (replies, [], sym (append-nil replies), sym (answered.report c))
 told_in settings zone c h asked replies served (Some x) cut = (
@@ -37,22 +37,22 @@ told_of_set : (settings : Settings) (zone : Zone) (c : ℕ) (h : History) (momen
     → ((life ≡ life_of []) ⊎ ((verdict settings h moment 0 (SetBands bands) ≡ None)
     × (life ≡ life_of (setting moment bands ∷ []))))
     → (unsent : List (List ℕ))
-    × (answers_to_from settings zone c h life.answered ≡ at_places c life.answered unsent)
+    × (replies_to_from settings zone c h life.answered ≡ at_places c life.answered unsent)
 told_of_set settings zone c h moment bands life (inl idle) = (
   [],
-  ap (λ l. answers_to_from settings zone c h l.answered) idle
+  ap (λ l. replies_to_from settings zone c h l.answered) idle
       ∙ sym (ap (λ l. at_places c l.answered []) idle),
 )
 told_of_set settings zone c h moment bands life (inr (none, set)) =
     let text = rendered zone (setting moment bands) (reply settings h (meant (setting moment bands))) in (
       text ∷ [],
-      ap (λ l. answers_to_from settings zone c h l.answered) set
+      ap (λ l. replies_to_from settings zone c h l.answered) set
           ∙ sym (ap (λ l. at_places c l.answered (text ∷ [])) set),
     )
 
 told_by : (settings : Settings) (zone : Zone) (c : ℕ) (h : History) (run : Run) (life : Life Asked)
     → IsLifeIn settings zone h run life
-    → IsTold c run life (answers_to_from settings zone c h life.answered)
+    → IsTold c run life (replies_to_from settings zone c h life.answered)
 told_by settings zone c h (Answers asked replies) life is =
     told_in settings zone c h asked replies life.answered life.in_flight is
 told_by settings zone c h (Sets moment bands) life is =
@@ -66,12 +66,12 @@ pub told_alike : (settings : Settings) (zone : Zone) (c : ℕ) (h k : History)
     → AreToldAlike c runs lives others more
 told_alike settings zone c h k [] [] [] [] same are also = tt
 told_alike settings zone c h k (r ∷ rs) (s ∷ ss) (l ∷ ls) (m ∷ ms) same are also =
-    let first : answers_to_from settings zone c h l.answered ≡ answers_to_from settings zone c k m.answered =
+    let first : replies_to_from settings zone c h l.answered ≡ replies_to_from settings zone c k m.answered =
     ap (λ all. get_or all 0 []) same in
     let one = told_by settings zone c h r l are.0 in
     let other = told_by settings zone c k s m also.0 in (
       (
-        answers_to_from settings zone c h l.answered,
+        replies_to_from settings zone c h l.answered,
         one,
         subst (IsTold c s m) (sym first) other,
       ),

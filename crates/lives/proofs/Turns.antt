@@ -9,7 +9,7 @@ use Rattle.office.specs.Imports.{HasOrdered, IsOrder}
 use Rattle.office.specs.declared.lot.Lot.{Lot}
 use Rattle.office.specs.declared.lister.Lister.{Lister}
 use Rattle.settle.specs.declared.zone.Zone.{Zone}
-use Rattle.site.specs.Answers.{IsStep}
+use Rattle.site.specs.Replies.{IsStep}
 use Rattle.site.specs.Runs.{InTurn}
 use Rattle.site_connections.specs.Turns.{HasTakenSome, Takes, TakesEach, TakesWell}
 use Rattle.site_connections.specs.declared.connection.Connection.{Connection}

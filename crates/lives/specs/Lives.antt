@@ -13,7 +13,7 @@ use Rattle.house_rows.specs.Tables.{Tables, tables_of}
 use Rattle.house_rows.specs.Verdict.{IsHistory, verdict}
 use Rattle.settle.specs.Zoned.{IsZoneOf}
 use Rattle.settle.specs.declared.zone.Zone.{Zone}
-use Rattle.site.specs.Answers.{IsStep}
+use Rattle.site.specs.Replies.{IsStep}
 use Rattle.site.specs.Lives.{IsLifeOf, served_replies}
 use Rattle.site.specs.Runs.{InTurn, at_places, meant}
 use Rattle.site_request.specs.declared.asked.Asked.{Asked}

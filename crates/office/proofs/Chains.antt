@@ -86,7 +86,7 @@ report_ordered Step Prints by lot text number result old new listable fits repor
   );
 }
 
--- and came to what the answer says
+-- and came to what the reply says
 pub report_done : {K : Type 0} (Step : Asked → List ℕ → K → K → Type 0)
     (Prints : List ℕ → Type 0) (by : Lister) (lot : Lot) (text : List ℕ) (number : ℕ)
     (result : Result Outcome ImportFault) (old new : K) → IsListable lot

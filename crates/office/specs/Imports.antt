@@ -27,7 +27,7 @@ use Rattle.office.specs.Tallies.{counted, nothing, sum_of}
 abbrev pub keep_of : {K : Type 0} → Site K → K
 keep_of site = site.keep
 
--- a message was answered, and what the answer says was printed, or it ended the import
+-- a message was answered, and what the reply says was printed, or it ended the import
 pub record IsReported {K : Type 0} (Step : Asked → List ℕ → K → K → Type 0)
     (Prints : List ℕ → Type 0) (text : List ℕ) (number : ℕ) (result : Result Outcome ImportFault)
     (old new : K) : Type 0 where
@@ -60,7 +60,7 @@ pub record IsTooLong {K : Type 0} (by : Lister) (number : ℕ) (lot : Lot) (outc
   pub line_is : line ≡ range_line number
   pub same : new ≡ old
 
--- the order of a lot was answered, and came to what the answer says
+-- the order of a lot was answered, and came to what the reply says
 pub record IsListing {K : Type 0} (Step : Asked → List ℕ → K → K → Type 0) (by : Lister)
     (number : ℕ) (lot : Lot) (outcome : Outcome) (line : List ℕ) (old new : K) : Type 0 where
   pub fits : message_of by lot ≡ Some (order_text by lot)

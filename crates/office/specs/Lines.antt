@@ -16,7 +16,7 @@ from_byte byte (first ∷ rest) =
 abbrev pub before_byte : ℕ → List ℕ → List ℕ
 before_byte byte text = take (length text - length (from_byte byte text)) text
 
--- the number of the item in the body of an answer, as in `{"item":2}`
+-- the number of the item in the body of a reply, as in `{"item":2}`
 abbrev pub item_in : List ℕ → List ℕ
 item_in reply = before_byte 125 (drop 8 (from_byte 123 reply))
 
@@ -29,7 +29,7 @@ abbrev pub row_line : ℕ → List ℕ → List ℕ → List ℕ
 row_line number word report =
     codes "row " ++ decimal number ++ codes ": " ++ word ++ codes " " ++ report ++ codes "\n"
 
--- what the answer to a row's order says
+-- what the reply to a row's order says
 abbrev pub report_line : ℕ → Outcome → List ℕ → List ℕ
 report_line number outcome.Listed reply = row_line number (codes "item") (item_in reply)
 report_line number outcome.There reply = row_line number (codes "there") (codes "already")

@@ -1,4 +1,4 @@
--- What the answer to an order says.
+-- What the reply to an order says.
 use Rattle.std.specs.Prelude.{◌≡◌, ◌≢◌, ℕ, List, ◌++◌, codes, false}
 use Rattle.house_rows.specs.declared.fault.KeepFault.TheVariants as fault
 use Rattle.site_replies.specs.Texts.{fault_text}
@@ -11,7 +11,7 @@ use Rattle.office.specs.declared.outcome.Outcome.TheVariants as outcome
 abbrev pub IsCreated : List ℕ → Type 0
 IsCreated reply = (rest : List ℕ) × (reply ≡ codes "HTTP/1.1 201 " ++ rest)
 
--- the answer where the seller has an item with the code
+-- the reply where the seller has an item with the code
 abbrev pub there_text : List ℕ
 there_text = codes "HTTP/1.1 409 Conflict\r\ncontent-type: application/json\r\n"
     ++ codes "content-length: 33\r\n\r\n{\"error\":\"LotExists\",\"number\":13}"
@@ -24,13 +24,13 @@ pub record IsRefusal (reply : List ℕ) : Type 0 where
   pub no_store : reply ≢ fault_text fault.Store false
   pub no_damage : reply ≢ fault_text fault.Damaged false
 
--- what an answer says
+-- what a reply says
 abbrev pub Tells : List ℕ → Outcome → Type 0
 Tells reply outcome.Listed = IsCreated reply
 Tells reply outcome.There = reply ≡ there_text
 Tells reply outcome.Refused = IsRefusal reply
 
--- why an answer ends an import: it is the text of the fault, or what it says can't be printed
+-- why a reply ends an import: it is the text of the fault, or what it says can't be printed
 abbrev pub Fails : List ℕ → ImportFault → Type 0
 Fails reply importing.Memory = reply ≡ fault_text fault.Memory false
 Fails reply importing.Store = reply ≡ fault_text fault.Store false

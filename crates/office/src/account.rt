@@ -6,7 +6,7 @@ ghost use Rattle.house_rows.specs.Keeping.{AreSound};
 ghost use Rattle.house_rows.specs.Pages.{member_at};
 ghost use Rattle.settle.specs.Statement.{statement_of};
 ghost use Rattle.settle.specs.Zoned.{IsZoneOf};
-ghost use Rattle.site.specs.Answers.{IsReadable};
+ghost use Rattle.site.specs.Replies.{IsReadable};
 ghost use Rattle.settle.specs.declared.zone.Zone.{Zone as TheZone};
 
 use crate::zone::read_zone;

@@ -5,7 +5,7 @@ ghost use Rattle.csv.specs.Records.{fields_of};
 ghost use Rattle.house_rows.specs.Answers.{Reads};
 ghost use Rattle.house_rows.specs.Keeping.{AreSound};
 ghost use Rattle.house_rows.specs.Pages.{member_at};
-ghost use Rattle.site.specs.Answers.{zone_of};
+ghost use Rattle.site.specs.Replies.{zone_of};
 ghost use Rattle.site.specs.Histories.{Steps};
 ghost use Rattle.steps.specs.Reading.{HasRead, records_of};
 ghost use Rattle.office.specs.Faults.{IsLookUpFault};
@@ -50,7 +50,7 @@ pub fn check_member<K: Keep>(keep: &mut K, member: u64) -> Result<(), ImportFaul
     }
 }
 
-// Prints what the answer to a row's order says.
+// Prints what the reply to a row's order says.
 fn write_outcome<W: Write>(
     reply: &[u8],
     number: u64,
@@ -68,7 +68,7 @@ fn write_outcome<W: Write>(
     Ok(outcome)
 }
 
-// Has the order of a row answered, and prints what the answer says.
+// Has the order of a row answered, and prints what the reply says.
 fn ask<W: Write, K: Keep + Drop>(
     site: &mut Site<K>,
     message: &[u8],
@@ -83,7 +83,7 @@ fn ask<W: Write, K: Keep + Drop>(
         UnlessWrite fault (W.contents output.new ≡ W.contents output.old)) }
     ensures zone { zone_of site.new ≡ zone_of site.old }
 {
-    let reply = site.answer(message);
+    let reply = site.reply(message);
     write_outcome(&reply, number, output)
 }
 

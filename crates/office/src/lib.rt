@@ -3,7 +3,7 @@
 //! Promised, over any keep: a statement is the one of the kept sales of a member, by the kept zone
 //! and rate; who isn't registered has none; the tables stay. A lot file is read as far as each
 //! record has its fields, each row that can be read is one order of the member at the moment, made
-//! through the site, and what is counted is what the answers said. Read `account` first, then
+//! through the site, and what is counted is what the replies said. Read `account` first, then
 //! `specs/Lots.antt` and `specs/Imports.antt`, and `imports`.
 #![tactic(auto)]
 

@@ -84,7 +84,7 @@ fn print_row<W: Write>(
     }
 }
 
-/// Prints what the answer to a row's order says. Rows are numbered from 1.
+/// Prints what the reply to a row's order says. Rows are numbered from 1.
 pub fn print_outcome<W: Write>(
     output: &mut W,
     number: u64,

@@ -1,4 +1,4 @@
-//! What the answer to an order says.
+//! What the reply to an order says.
 ghost use Rattle.std.specs.Prelude.{◌≡◌, false, IfErr, IfOk};
 ghost use Rattle.site_replies.specs.Texts.{fault_text};
 ghost use Rattle.office.specs.Outcomes.{Tells};
@@ -6,7 +6,7 @@ ghost use Rattle.office.specs.Outcomes.{Tells};
 use house_rows::KeepFault;
 use site_replies::fault_text;
 
-// The answer where the seller has an item with the code.
+// The reply where the seller has an item with the code.
 const THERE: &[u8] = b"HTTP/1.1 409 Conflict\r\ncontent-type: application/json\r\n\
     content-length: 33\r\n\r\n{\"error\":\"LotExists\",\"number\":13}";
 
@@ -21,7 +21,7 @@ pub enum Outcome {
     Refused,
 }
 
-/// What an answer says of the order that it is to. An error is one of memory or of the keep.
+/// What a reply says of the order that it is to. An error is one of memory or of the keep.
 pub fn outcome_of(reply: &[u8]) -> Result<Outcome, KeepFault>
     ensures report { IfOk result (Tells reply.now) }
     ensures fault { IfErr result (λ fault. reply.now ≡ fault_text fault false) }

@@ -1,7 +1,7 @@
 //! The zone that is kept.
 ghost use Rattle.std.specs.Prelude.{◌≡◌, ◌↔◌, IfErr, IfOk, IsOk};
 ghost use Rattle.settle.specs.Zoned.{IsZoneOf};
-ghost use Rattle.site.specs.Answers.{IsBegun, IsReadable};
+ghost use Rattle.site.specs.Replies.{IsBegun, IsReadable};
 
 use house_rows::{Keep, KeepFault, Settings};
 use settle::Zone;

@@ -14,17 +14,17 @@ use Rattle.site_request.specs.Asked.{IsAsked}
 use Rattle.site_request.specs.declared.asked.Asked.{Asked}
 use Rattle.site_replies.specs.Texts.{IsServed}
 use Rattle.site_replies.proofs.StatusLemmas.{memory_reported}
-use Rattle.site.specs.Answers.{IsStep, answer_of, next_of}
+use Rattle.site.specs.Replies.{IsStep, next_of, reply_to}
 use Rattle.site.specs.Lives.{IsAnsweredTheSame, LivesOn, TwinRunsFrom, asked_history}
-use Rattle.site.specs.Runs.{InTurn, IsGoing, IsRun, TwinRuns, answers_from, answers_to, at_places, is_from, meant, rendered}
+use Rattle.site.specs.Runs.{InTurn, IsGoing, IsRun, TwinRuns, at_places, is_from, meant, rendered, replies_from, replies_to}
 use Rattle.site.proofs.Steps.{not_both}
 use Rattle.site.proofs.Turns.{Turns, one_asked, ran_of, ran_texts}
 
--- where every reply was served, the replies are the answers
+-- where every reply was served, the replies are those of the definitions
 served_run : (settings : Settings) (zone : Zone) (h : History) (ms : List Asked)
     (rs : List (List ℕ)) (after : History)
     → IsRun settings zone h ms rs after → AllByRecursion IsServed rs
-    → rs ≡ answers_from settings zone h ms
+    → rs ≡ replies_from settings zone h ms
 served_run settings zone h [] [] after run served = refl
 served_run settings zone h [] (r ∷ rs) after run served = absurd run
 served_run settings zone h (m ∷ ms) [] after run served = absurd run
@@ -51,19 +51,19 @@ served_going : (rs : List (List ℕ)) → AllByRecursion IsServed rs → AllByRe
 served_going [] served = tt
 served_going (r ∷ rs) served = (served.0.not_failed, served_going rs served.1)
 
--- the answers at a member's places are those to it
+-- the replies at a member's places are those to it
 pub places_are : (settings : Settings) (zone : Zone) (c : ℕ) (h : History) (ms : List Asked)
-    → at_places c ms (answers_from settings zone h ms)
+    → at_places c ms (replies_from settings zone h ms)
     ≡ rendered_from meant (rendered zone) settings c h ms
-unfolding answer_of next_of
+unfolding reply_to next_of
 places_are settings zone c h [] = refl
 places_are settings zone c h (m ∷ ms) =
-    ap (λ rest. (if is_from c m then answer_of settings zone h m ∷ [] else []) ++ rest)
+    ap (λ rest. (if is_from c m then reply_to settings zone h m ∷ [] else []) ++ rest)
     (places_are settings zone c (next_of settings h m) ms)
 
 pub isolated : (settings : Settings) (zone : Zone) (c : ℕ) (left right : List Asked)
     → TwinRuns settings c left right
-    → answers_to settings zone c left ≡ answers_to settings zone c right
+    → replies_to settings zone c left ≡ replies_to settings zone c right
 isolated settings zone c left right twin =
     laws.isolation meant (rendered zone) settings c left right twin
 
@@ -122,7 +122,7 @@ pub run_isolated : {K : Type 0} (content : K → Tables) (is_failed : K → Bool
     → content old ≡ tables_of settings [] → AllByRecursion IsServed rs
     → (c : ℕ) (firsts seconds : List Asked) → AllZip IsAsked texts firsts
     → TwinRuns settings c firsts seconds
-    → at_places c firsts rs ≡ answers_to settings zone c seconds
+    → at_places c firsts rs ≡ replies_to settings zone c seconds
 run_isolated content is_failed is_honest may_leave settings zone texts rs old new turns honest e
     served c firsts seconds are twin =
     let ran = ran_texts content is_failed is_honest may_leave settings zone [] texts rs old new

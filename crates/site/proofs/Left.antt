@@ -12,25 +12,25 @@ use Rattle.site_request.specs.Asked.{IsAsked}
 use Rattle.site_request.specs.declared.asked.Asked.{Asked}
 use Rattle.site_replies.specs.Texts.{is_failure, is_refusal_of_memory}
 use Rattle.site_replies.proofs.StatusLemmas.{memory_reported, reply_served}
-use Rattle.site.specs.Answers.{IsStep, answer_of, next_of}
+use Rattle.site.specs.Replies.{IsStep, next_of, reply_to}
 use Rattle.site.specs.Lives.{AreAnswered, LeavesALife, WasCut, asked_history, served_among, served_replies}
-use Rattle.site.specs.Runs.{InTurn, IsGoing, IsRun, Ran, Stopped, answers_from, at_places}
+use Rattle.site.specs.Runs.{InTurn, IsGoing, IsRun, Ran, Stopped, at_places, replies_from}
 use Rattle.site.proofs.Isolated.{places_are}
 use Rattle.site.proofs.Steps.{memory_goes, not_both}
 use Rattle.site.proofs.Stops.{stopped_of}
 use Rattle.site.proofs.Turns.{Turns, one_asked, ran_of}
 
--- the answer of the definitions is no 503, and no 500
-answer_is_no_refusal : (settings : Settings) (zone : Zone) (h : History) (m : Asked)
-    → is_refusal_of_memory (answer_of settings zone h m) ≡ false
-unfolding answer_of
-answer_is_no_refusal settings zone h m =
+-- the reply of the definitions is no 503, and no 500
+reply_is_no_refusal : (settings : Settings) (zone : Zone) (h : History) (m : Asked)
+    → is_refusal_of_memory (reply_to settings zone h m) ≡ false
+unfolding reply_to
+reply_is_no_refusal settings zone h m =
     (reply_served zone m.closes (reply settings h m.message)).not_wanting
 
-answer_goes : (settings : Settings) (zone : Zone) (h : History) (m : Asked)
-    → IsGoing (answer_of settings zone h m)
-unfolding answer_of
-answer_goes settings zone h m =
+reply_goes : (settings : Settings) (zone : Zone) (h : History) (m : Asked)
+    → IsGoing (reply_to settings zone h m)
+unfolding reply_to
+reply_goes settings zone h m =
     (reply_served zone m.closes (reply settings h m.message)).not_failed
 
 -- no reply of a run says that the store failed
@@ -41,7 +41,7 @@ run_goes settings zone h [] [] after run = tt
 run_goes settings zone h [] (r ∷ rs) after run = absurd run
 run_goes settings zone h (m ∷ ms) [] after run = absurd run
 run_goes settings zone h (m ∷ ms) (r ∷ rs) after (inl (e, run)) = (
-  rw e (answer_goes settings zone h m),
+  rw e (reply_goes settings zone h m),
   run_goes settings zone (next_of settings h m) ms rs after run,
 )
 run_goes settings zone h (m ∷ ms) (r ∷ rs) after (inr (e, run)) =
@@ -56,21 +56,21 @@ run_served settings zone h [] [] after run = run
 run_served settings zone h [] (r ∷ rs) after run = absurd run
 run_served settings zone h (m ∷ ms) [] after run = absurd run
 run_served settings zone h (m ∷ ms) (r ∷ rs) after (inl (e, run)) =
-    rw (ap is_refusal_of_memory e ∙ answer_is_no_refusal settings zone h m)
+    rw (ap is_refusal_of_memory e ∙ reply_is_no_refusal settings zone h m)
     (run_served settings zone (next_of settings h m) ms rs after run)
 run_served settings zone h (m ∷ ms) (r ∷ rs) after (inr (e, run)) =
     rw (ap is_refusal_of_memory e ∙ memory_reported m.closes)
     (run_served settings zone h ms rs after run)
 
--- and the replies to that are its answers
+-- and the replies to that are those of the definitions
 run_tells : (settings : Settings) (zone : Zone) (h : History) (ms : List Asked)
     (rs : List (List ℕ)) (after : History) → IsRun settings zone h ms rs after
-    → served_replies rs ≡ answers_from settings zone h (served_among ms rs)
+    → served_replies rs ≡ replies_from settings zone h (served_among ms rs)
 run_tells settings zone h [] [] after run = refl
 run_tells settings zone h [] (r ∷ rs) after run = absurd run
 run_tells settings zone h (m ∷ ms) [] after run = absurd run
 run_tells settings zone h (m ∷ ms) (r ∷ rs) after (inl (e, run)) =
-    rw (ap is_refusal_of_memory e ∙ answer_is_no_refusal settings zone h m)
+    rw (ap is_refusal_of_memory e ∙ reply_is_no_refusal settings zone h m)
     (rw (e, run_tells settings zone (next_of settings h m) ms rs after run) refl)
 run_tells settings zone h (m ∷ ms) (r ∷ rs) after (inr (e, run)) =
     rw (ap is_refusal_of_memory e ∙ memory_reported m.closes)

@@ -10,8 +10,8 @@ use Rattle.settle.specs.declared.zone.Zone.{Zone}
 use Rattle.site_request.specs.Asked.{IsAsked}
 use Rattle.site_request.specs.declared.asked.Asked.{Asked}
 use Rattle.site_replies.specs.Texts.{IsServed}
-use Rattle.site.specs.Answers.{IsStep}
-use Rattle.site.specs.Runs.{IsCoveredRun, IsHidden, Raises, TwinRuns, answers_to, meant}
+use Rattle.site.specs.Replies.{IsStep}
+use Rattle.site.specs.Runs.{IsCoveredRun, IsHidden, Raises, TwinRuns, meant, replies_to}
 use Rattle.site.proofs.Isolated.{isolated, run_isolated}
 use Rattle.site.proofs.Turns.{Turns}
 
@@ -48,9 +48,9 @@ pub raised_twins : (settings : Settings) (c place y : ℕ) (b : Sealed) (run : L
     → IsCoveredRun settings c place y b run → Raises y b other → TwinRuns settings c run (raised place other run)
 raised_twins settings c place y b run other valid covered raises = covered_twins meant settings c place y b run other valid covered raises
 
-pub raised_answers : (settings : Settings) (zone : Zone) (c place y : ℕ) (b : Sealed) (run : List Asked) (other : Asked) → IsBandTable settings.bands
-    → IsCoveredRun settings c place y b run → Raises y b other → answers_to settings zone c run ≡ answers_to settings zone c (raised place other run)
-raised_answers settings zone c place y b run other valid covered raises =
+pub raised_replies : (settings : Settings) (zone : Zone) (c place y : ℕ) (b : Sealed) (run : List Asked) (other : Asked) → IsBandTable settings.bands
+    → IsCoveredRun settings c place y b run → Raises y b other → replies_to settings zone c run ≡ replies_to settings zone c (raised place other run)
+raised_replies settings zone c place y b run other valid covered raises =
     isolated settings zone c run (raised place other run) (raised_twins settings c place y b run other valid covered raises)
 
 -- on a run that was served

@@ -27,13 +27,13 @@ use Rattle.site_request.specs.declared.fault.Fault.TheVariants as fault
 use Rattle.site_replies.specs.Texts.{digits_in, fault_text, is_failure, reply_text}
 use Rattle.site_replies.proofs.StatusLemmas.{reply_served, store_reported}
 use Rattle.status.specs.Status.{phrase_of}
-use Rattle.wire.specs.Answer.{answer_bytes, head_start, status_line}
+use Rattle.wire.specs.Response.{head_start, response_bytes, status_line}
 use Rattle.wire.specs.Frame.{IsFrame}
 use Rattle.wire.specs.Message.{Message as Framed}
 use Rattle.wire.specs.declared.fault.WireFault.{WireFault}
 use Rattle.wire.specs.declared.fault.WireFault.TheVariants as wire
 use Rattle.wire.proofs.OneFrame.{one_frame}
-use Rattle.site.specs.Answers.{IsAppended, IsStep, IsReported, IsUnmade, answer_of, broken_text, next_of}
+use Rattle.site.specs.Replies.{IsAppended, IsReported, IsStep, IsUnmade, broken_text, next_of, reply_to}
 
 pub not_both : (b : Bool) → b ≡ true → b ≡ false → ⊥
 not_both true is not = cc
@@ -41,7 +41,7 @@ not_both false is not = cc
 
 -- want of memory isn't reported as a failure
 pub memory_goes : (closes : Bool) → is_failure (fault_text Memory closes) ≡ false
-unfolding fault_text digits_in answer_bytes head_start status_line
+unfolding fault_text digits_in response_bytes head_start status_line
 memory_goes closes = refl
 
 -- a failed store and a damaged row differ in the second digit of their content-length
@@ -49,11 +49,11 @@ abbrev is_of_17 : List ℕ → Bool
 is_of_17 text = bytes_eq (take 1 (drop 85 text)) (codes "7")
 
 store_is_of_17 : (closes : Bool) → is_of_17 (fault_text Store closes) ≡ true
-unfolding fault_text answer_bytes head_start status_line phrase_of digits
+unfolding fault_text response_bytes head_start status_line phrase_of digits
 store_is_of_17 closes = refl
 
 damage_is_not : (closes : Bool) → is_of_17 (fault_text Damaged closes) ≡ false
-unfolding fault_text answer_bytes head_start status_line phrase_of digits
+unfolding fault_text response_bytes head_start status_line phrase_of digits
 damage_is_not closes = refl
 
 -- a text that isn't reported as a failure doesn't say that the store failed
@@ -175,7 +175,7 @@ step_ok : {K : Type 0} (content : K → Tables) (is_failed : K → Bool) (is_hon
     after old new
     → (text : List ℕ) × (after ≡ before ++ text)
     × IsStep content is_failed is_honest may_leave zone asked text old new
-unfolding answer_of next_of
+unfolding reply_to next_of
 step_ok content is_failed is_honest may_leave zone asked u before after old new acted =
     let (r, e) = acted.text in
     let still : (new ≡ old) ⊎ (is_failed new ≡ false) =
@@ -184,7 +184,7 @@ step_ok content is_failed is_honest may_leave zone asked u before after old new 
       reply_text zone asked.closes r,
       e,
       record {
-        answer = λ honest settings h is same. record {
+        replies = λ honest settings h is same. record {
           outcome = inl (record {
             report = append_cancel_left before (reply_text zone asked.closes r)
                 (reply_text zone asked.closes (reply settings h asked.message)) (sym e
@@ -230,7 +230,7 @@ step_err content is_failed is_honest may_leave zone asked Memory before after ol
     idle_or_going is_failed old new (is_asking asked.message) acted.asleep
     (λ failed. let wrong = acted.store.1 failed in cc) in
     record {
-      answer = λ honest settings h is same. record {
+      replies = λ honest settings h is same. record {
         outcome = inr (inl (record {
           report = refl;
           tables = same_tables content is_failed old new (acted.unmade honest) still;
@@ -252,7 +252,7 @@ step_err content is_failed is_honest may_leave zone asked Memory before after ol
     }
 step_err content is_failed is_honest may_leave zone asked Store before after old new acted =
     record {
-      answer = λ honest settings h is same. record {
+      replies = λ honest settings h is same. record {
         outcome = inr (inr (record {
           report = refl;
           asking = asks_may asked.message (acted.store.0 refl).1;
@@ -272,7 +272,7 @@ step_err content is_failed is_honest may_leave zone asked Store before after old
     }
 step_err content is_failed is_honest may_leave zone asked Damaged before after old new acted =
     record {
-      answer = λ honest settings h is same. absurd (acted.whole honest settings h is same refl);
+      replies = λ honest settings h is same. absurd (acted.whole honest settings h is same refl);
       report = inr (unmade content is_failed is_honest may_leave zone asked Damaged before after old new acted);
       crash = acted.crash;
       failure = λ honest sound failing. inr (acted.damaged honest sound refl);
@@ -314,7 +314,7 @@ unread_going : {K : Type 0} (content : K → Tables) (is_failed : K → Bool)
     (zone : Zone) (asked : Asked) (k : K) → is_failed k ≡ false
     → IsStep content is_failed is_honest may_leave zone asked (fault_text Memory asked.closes) k k
 unread_going content is_failed is_honest may_leave zone asked k going = record {
-  answer = λ honest settings h is e. record {
+  replies = λ honest settings h is e. record {
     outcome = inr (inl (record { report = refl; tables = refl; same = refl; left = λ t may. may }));
     crash = λ t may. inl may;
   };
@@ -340,7 +340,7 @@ unread_down : {K : Type 0} (content : K → Tables) (is_failed : K → Bool)
     (zone : Zone) (asked : Asked) (k : K) → may_ask asked.message ≡ true → is_failed k ≡ true
     → IsStep content is_failed is_honest may_leave zone asked (fault_text Store asked.closes) k k
 unread_down content is_failed is_honest may_leave zone asked k may failed = record {
-  answer = λ honest settings h is e. record {
+  replies = λ honest settings h is e. record {
     outcome = inr (inr (record { report = refl; asking = may; failed = failed }));
     crash = λ t may. inl may;
   };
@@ -377,8 +377,8 @@ step_unread content is_failed is_honest may_leave zone asked closes reply k same
 
 -- the text that is ready for a broken frame is that of the reply
 broken_replied : (settings : Settings) (zone : Zone) (h : History) (f : WireFault)
-    → broken_text f ≡ answer_of settings zone h (asked_of (Err f))
-unfolding answer_of asked_of reply reply_text
+    → broken_text f ≡ reply_to settings zone h (asked_of (Err f))
+unfolding reply_to asked_of reply reply_text
 broken_replied settings zone h f = refl
 
 broken_reply : (zone : Zone) (f : WireFault)
@@ -410,7 +410,7 @@ unfolding asked_of
 broken_enters settings h f = refl
 
 broken_goes : (f : WireFault) → is_failure (broken_text f) ≡ false
-unfolding digits_in answer_bytes head_start status_line
+unfolding digits_in response_bytes head_start status_line
 broken_goes wire.Head = refl
 broken_goes wire.Host = refl
 broken_goes wire.Transfer = refl
@@ -425,7 +425,7 @@ pub step_broken : {K : Type 0} (content : K → Tables) (is_failed : K → Bool)
     (zone : Zone) (f : WireFault) (k : K)
     → IsStep content is_failed is_honest may_leave zone (asked_of (Err f)) (broken_text f) k k
 step_broken content is_failed is_honest may_leave zone f k = record {
-  answer = λ honest settings h is e. record {
+  replies = λ honest settings h is e. record {
     outcome = inl (record {
       report = broken_replied settings zone h f;
       tables = e ∙ ap (tables_of settings) (sym (broken_leaves settings h f));

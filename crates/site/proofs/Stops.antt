@@ -12,7 +12,7 @@ use Rattle.site_request.specs.Asked.{IsAsked}
 use Rattle.site_request.specs.declared.asked.Asked.{Asked}
 use Rattle.site_replies.specs.Texts.{is_failure}
 use Rattle.site_replies.proofs.StatusLemmas.{reply_served, store_reported}
-use Rattle.site.specs.Answers.{Answers, IsDown, IsFailed, IsStep, answer_of, next_of}
+use Rattle.site.specs.Replies.{IsDown, IsFailed, IsStep, Replies, next_of, reply_to}
 use Rattle.site.specs.Runs.{AreDown, InTurn, IsGoing, StaysDown, Stopped}
 use Rattle.site.proofs.Steps.{memory_goes, not_both}
 use Rattle.site.proofs.Turns.{Turns, honest_before, next_is, one_asked, one_meaning, settled_next}
@@ -90,14 +90,14 @@ stopped_later : {K : Type 0} (content : K → Tables) (is_failed : K → Bool)
     (may_leave : K → Tables → Type 0) (settings : Settings) (zone : Zone) (h : History)
     (m : Asked) (r : List ℕ) (ms : List Asked) (rs : List (List ℕ)) (old mid new : K)
     → IsHistory settings h → content old ≡ tables_of settings h
-    → Answers content is_failed may_leave settings zone h m r old mid
+    → Replies content is_failed may_leave settings zone h m r old mid
     → ¬ (IsFailed m r (is_failed mid))
     → ((k : History) → IsHistory settings k → content mid ≡ tables_of settings k
     → Stopped content is_failed may_leave settings zone k ms rs mid new)
     → Stopped content is_failed may_leave settings zone h (m ∷ ms) (r ∷ rs) old new
-stopped_later content is_failed may_leave settings zone h m r ms rs old mid new is e answers going
+stopped_later content is_failed may_leave settings zone h m r ms rs old mid new is e replied going
     rest =
-    elim answers.outcome [
+    elim replied.outcome [
       | inl done ↦ (let stop = rest (next_of settings h m) (next_is settings h m is) done.tables in
           record {
             first = m ∷ stop.first;
@@ -114,7 +114,7 @@ stopped_later content is_failed may_leave settings zone h m r ms rs old mid new 
             failed = stop.failed;
             left = λ first. stop.left
                 (settled_next content is_failed may_leave settings zone h m r old
-                mid e done answers.crash first);
+                mid e done replied.crash first);
           })
       | inr other ↦ elim other [
         | inl wanting ↦ (let stop = rest h is (wanting.tables ∙ e) in record {
@@ -136,15 +136,15 @@ stopped_later content is_failed may_leave settings zone h m r ms rs old mid new 
       ]
     ]
 
--- an answer and a refusal of memory don't report a failure
+-- a reply and a refusal of memory don't report a failure
 failed_if : {K : Type 0} (content : K → Tables) (is_failed : K → Bool)
     (may_leave : K → Tables → Type 0) (settings : Settings) (zone : Zone) (h : History)
     (m : Asked) (r : List ℕ) (old mid : K)
-    → Answers content is_failed may_leave settings zone h m r old mid → is_failure r ≡ true
+    → Replies content is_failed may_leave settings zone h m r old mid → is_failure r ≡ true
     → IsFailed m r (is_failed mid)
-unfolding answer_of
-failed_if content is_failed may_leave settings zone h m r old mid answers failing =
-    elim answers.outcome [
+unfolding reply_to
+failed_if content is_failed may_leave settings zone h m r old mid replied failing =
+    elim replied.outcome [
       | inl done ↦ absurd (not_both _ (rw done.report at failing)
           (reply_served zone m.closes (reply settings h m.message)).not_failed)
       | inr other ↦ elim other [
@@ -173,11 +173,11 @@ stopped_of content is_failed is_honest may_leave settings zone h (m ∷ ms) [] o
     e stopped = absurd turn
 stopped_of content is_failed is_honest may_leave settings zone h (m ∷ ms) (r ∷ rs) old new
     (mid, step, turn) honest is e stopped =
-    let answers = step.answer (honest_before content is_failed is_honest may_leave zone ms rs mid
+    let replied = step.replies (honest_before content is_failed is_honest may_leave zone ms rs mid
     new turn honest) settings h is e in
     elim (by_test (is_failure r)) [
       | inl failing ↦ (let failed = failed_if content is_failed may_leave settings zone h m r old
-          mid answers failing in record {
+          mid replied failing in record {
             first = [];
             last = m;
             later = ms;
@@ -193,7 +193,7 @@ stopped_of content is_failed is_honest may_leave settings zone h (m ∷ ms) (r �
             failed = failed_after content is_failed is_honest may_leave zone ms rs mid new turn
                 failed.failed;
             left = λ first t may.
-                elim (answers.crash t
+                elim (replied.crash t
                 (left_after content is_failed is_honest may_leave zone ms rs mid
                 new turn honest failed.failed t may)) [
                   | inl could ↦ inl (first t could ∙ e)
@@ -201,7 +201,7 @@ stopped_of content is_failed is_honest may_leave settings zone h (m ∷ ms) (r �
                 ];
           })
       | inr going ↦ stopped_later content is_failed may_leave settings zone h m r ms rs old mid new
-          is e answers (not_failed_if m r (is_failed mid) going)
+          is e replied (not_failed_if m r (is_failed mid) going)
           (λ k also same. stopped_of content is_failed is_honest may_leave settings zone k ms rs mid
           new turn honest also same (λ all. stopped (going, all)))
     ]

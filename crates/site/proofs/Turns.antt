@@ -20,7 +20,7 @@ use Rattle.site_request.specs.declared.asked.Asked.{Asked}
 use Rattle.site_request.specs.declared.fault.Fault.{Fault}
 use Rattle.site_replies.proofs.StatusLemmas.{store_reported}
 use Rattle.wire.proofs.OneFrame.{one_frame}
-use Rattle.site.specs.Answers.{Answers, IsAnswered, IsStep, next_of}
+use Rattle.site.specs.Replies.{IsAnswered, IsStep, Replies, next_of}
 use Rattle.site.specs.Runs.{InTurn, IsGoing, Ran}
 use Rattle.site.proofs.Steps.{not_both}
 
@@ -82,7 +82,7 @@ not_entered : (settings : Settings) (h : History) (m : Asked)
 unfolding next_of
 not_entered settings h m not = stays settings h m.message not
 
--- after an answer a crash leaves the tables alone, where it did so before
+-- after a reply a crash leaves the tables alone, where it did so before
 pub settled_next : {K : Type 0} (content : K → Tables) (is_failed : K → Bool)
     (may_leave : K → Tables → Type 0) (settings : Settings) (zone : Zone) (h : History)
     (m : Asked) (r : List ℕ) (old new : K) → content old ≡ tables_of settings h
@@ -106,12 +106,12 @@ ran_step : {K : Type 0} (content : K → Tables) (is_failed : K → Bool)
     (may_leave : K → Tables → Type 0) (settings : Settings) (zone : Zone) (h : History)
     (m : Asked) (r : List ℕ) (ms : List Asked) (rs : List (List ℕ)) (old mid new : K)
     → IsHistory settings h → content old ≡ tables_of settings h
-    → Answers content is_failed may_leave settings zone h m r old mid → IsGoing r
+    → Replies content is_failed may_leave settings zone h m r old mid → IsGoing r
     → ((k : History) → IsHistory settings k → content mid ≡ tables_of settings k
     → Ran content is_failed may_leave settings zone k ms rs mid new)
     → Ran content is_failed may_leave settings zone h (m ∷ ms) (r ∷ rs) old new
-ran_step content is_failed may_leave settings zone h m r ms rs old mid new is e answers going rest =
-    elim answers.outcome [
+ran_step content is_failed may_leave settings zone h m r ms rs old mid new is e replied going rest =
+    elim replied.outcome [
       | inl done ↦ (let ran = rest (next_of settings h m) (next_is settings h m is) done.tables in
           record {
             after = ran.after;
@@ -121,7 +121,7 @@ ran_step content is_failed may_leave settings zone h m r ms rs old mid new is e 
             same = ran.same ∙ done.same;
             settled = λ first. ran.settled
                 (settled_next content is_failed may_leave settings zone h m r old mid e done
-                answers.crash first);
+                replied.crash first);
           })
       | inr other ↦ elim other [
         | inl wanting ↦ (let ran = rest h is (wanting.tables ∙ e) in record {
@@ -161,7 +161,7 @@ ran_of content is_failed is_honest may_leave settings zone h (m ∷ ms) [] old n
 ran_of content is_failed is_honest may_leave settings zone h (m ∷ ms) (r ∷ rs) old new
     (mid, step, turn) honest is e going =
     ran_step content is_failed may_leave settings zone h m r ms rs old mid new is e
-    (step.answer (honest_before content is_failed is_honest may_leave zone ms rs mid new turn
+    (step.replies (honest_before content is_failed is_honest may_leave zone ms rs mid new turn
     honest) settings h is e) going.0
     (λ k also same. ran_of content is_failed is_honest may_leave settings zone k ms rs mid new turn
     honest also same going.1)

@@ -8,7 +8,7 @@ use Rattle.house_rows.specs.declared.settings.Settings.{Settings}
 use Rattle.settle.specs.declared.zone.Zone.{Zone}
 use Rattle.site_request.specs.Asked.{IsAsked}
 use Rattle.site_request.specs.declared.asked.Asked.{Asked}
-use Rattle.site.specs.Answers.{IsStep}
+use Rattle.site.specs.Replies.{IsStep}
 
 -- one message asks, and this is the reply
 abbrev pub Steps : {K : Type 0} → Ghosts K → Zone → Asked → List ℕ → K → K → Type 0

@@ -15,9 +15,9 @@ use Rattle.site_request.specs.declared.asked.Asked.{Asked}
 use Rattle.site_replies.specs.Texts.{fault_text, is_refusal_of_memory}
 use Rattle.site.specs.Runs.{AreDown, IsGoing, at_places, meant, rendered}
 
--- the answers to one member, from a history on
-abbrev pub answers_to_from : Settings → Zone → ℕ → History → List Asked → List (List ℕ)
-answers_to_from settings zone c h asked =
+-- the replies to one member, from a history on
+abbrev pub replies_to_from : Settings → Zone → ℕ → History → List Asked → List (List ℕ)
+replies_to_from settings zone c h asked =
     rendered_from meant (rendered zone) settings c h asked
 
 -- twin runs for a member, from two histories on
@@ -28,11 +28,11 @@ TwinRunsFrom settings c h k left right = AreTwinsFrom meant settings c h k left 
 abbrev pub asked_history : Settings → History → List Asked → History
 asked_history settings h asked = history_from settings h (map meant asked)
 
--- the replies to a run at a member's places are the answers to a second one, from its history on;
+-- the replies to a run at a member's places are those to a second one, from its history on;
 -- and the histories after both are alike for the member, so that this can be said of the next two
 pub record IsAnsweredTheSame (settings : Settings) (zone : Zone) (c : ℕ) (h k : History)
     (asked second : List Asked) (replies : List (List ℕ)) : Type 0 where
-  pub same : at_places c asked replies ≡ answers_to_from settings zone c k second
+  pub same : at_places c asked replies ≡ replies_to_from settings zone c k second
   pub alike : AreAlike settings c (asked_history settings h asked)
       (asked_history settings k second)
 
@@ -65,13 +65,13 @@ served_replies [] = []
 served_replies (r ∷ rs) = (if is_refusal_of_memory r then [] else r ∷ []) ++ served_replies rs
 
 -- what was answered of a life: of messages of which none was answered that the store failed those
--- that were served. At each member's places their replies are the answers to it
+-- that were served. At each member's places their replies are those of the definitions to it
 pub record AreAnswered (settings : Settings) (zone : Zone) (h : History) (asked : List Asked)
     (replies : List (List ℕ)) (served : List Asked) : Type 0 where
   pub going : AllByRecursion IsGoing replies
   pub are : served ≡ served_among asked replies
   pub report : (c : ℕ) → at_places c served (served_replies replies)
-      ≡ answers_to_from settings zone c h served
+      ≡ replies_to_from settings zone c h served
 
 -- the same up to a message in which the store failed, so that it was in flight. After it each
 -- command and each read was answered with the failure

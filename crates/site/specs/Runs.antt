@@ -1,4 +1,4 @@
--- Runs: the answers to a list of messages, and those to one member.
+-- Runs: the replies to a list of messages, and those to one member.
 use Rattle.std.specs.List.{AllZip}
 use Rattle.std.specs.Prelude.{if◌then◌else◌, ◌≡◌, ◌⊎◌, ℕ, List, [], ◌∷◌, ◌++◌, Bool, true, false, Err}
 use Rattle.house_rows.specs.declared.fault.KeepFault.TheVariants as fault
@@ -17,17 +17,17 @@ use Rattle.site_request.specs.declared.fault.Fault.{Fault}
 use Rattle.site_replies.specs.Texts.{fault_text, is_failure, reply_text}
 use Rattle.wire.specs.Frame.{IsFrame}
 use Rattle.wire.specs.declared.fault.WireFault.{WireFault}
-use Rattle.site.specs.Answers.{IsDown, answer_of, broken_text, next_of}
+use Rattle.site.specs.Replies.{IsDown, broken_text, next_of, reply_to}
 
 -- whether a message is a member's
 abbrev pub is_from : ℕ → Asked → Bool
 is_from c asked = is_of c asked.message
 
--- the answers to messages in turn
-abbrev pub answers_from : Settings → Zone → History → List Asked → List (List ℕ)
-answers_from settings zone h [] = []
-answers_from settings zone h (m ∷ ms) =
-    answer_of settings zone h m ∷ answers_from settings zone (next_of settings h m) ms
+-- the replies to messages in turn
+abbrev pub replies_from : Settings → Zone → History → List Asked → List (List ℕ)
+replies_from settings zone h [] = []
+replies_from settings zone h (m ∷ ms) =
+    reply_to settings zone h m ∷ replies_from settings zone (next_of settings h m) ms
 
 -- what is asked
 abbrev pub meant : Asked → Message Fault
@@ -37,11 +37,11 @@ meant asked = asked.message
 abbrev pub rendered : Zone → Asked → Reply Fault → List ℕ
 rendered zone asked reply = reply_text zone asked.closes reply
 
--- the answers to one member, from the empty history on
-abbrev pub answers_to : Settings → Zone → ℕ → List Asked → List (List ℕ)
-answers_to settings zone c ms = rendered_to meant (rendered zone) settings c ms
+-- the replies to one member, from the empty history on
+abbrev pub replies_to : Settings → Zone → ℕ → List Asked → List (List ℕ)
+replies_to settings zone c ms = rendered_to meant (rendered zone) settings c ms
 
--- the answer to a broken frame reports its fault
+-- the reply to a broken frame reports its fault
 abbrev pub TellsFault : List ℕ → List ℕ → Type 0
 TellsFault text reply = (fault : WireFault) → IsFrame text (Err fault) → reply ≡ broken_text fault
 
@@ -70,7 +70,7 @@ pub record IsHidden (settings : Settings) (zone : Zone) (c place : ℕ) (texts :
     (text : List ℕ) (other : Asked) (replies : List (List ℕ)) : Type 0 where
   pub asks : AllZip IsAsked (raised place text texts) (raised place other asked)
   pub twins : TwinRuns settings c asked (raised place other asked)
-  pub same : at_places c asked replies ≡ answers_to settings zone c (raised place other asked)
+  pub same : at_places c asked replies ≡ replies_to settings zone c (raised place other asked)
 
 -- messages answered in turn, each over what the one before left
 abbrev pub InTurn : {K : Type 0} → (Asked → List ℕ → K → K → Type 0) → List Asked → List (List ℕ)
@@ -85,7 +85,7 @@ InTurn Step (m ∷ ms) [] old new = ⊥
 abbrev pub IsRun : Settings → Zone → History → List Asked → List (List ℕ) → History → Type 0
 IsRun settings zone h [] [] after = after ≡ h
 IsRun settings zone h (m ∷ ms) (r ∷ rs) after =
-    ((r ≡ answer_of settings zone h m) × IsRun settings zone (next_of settings h m) ms rs after)
+    ((r ≡ reply_to settings zone h m) × IsRun settings zone (next_of settings h m) ms rs after)
     ⊎ ((r ≡ fault_text fault.Memory m.closes) × IsRun settings zone h ms rs after)
 IsRun settings zone h [] (r ∷ rs) after = ⊥
 IsRun settings zone h (m ∷ ms) [] after = ⊥
@@ -109,7 +109,7 @@ pub record Ran {K : Type 0} (content : K → Tables) (is_failed : K → Bool)
   pub settled : ((t : Tables) → may_leave old t → t ≡ content old) → (t : Tables) → may_leave new t
       → t ≡ content new
 
--- the answers to messages over a store that has failed: each command and each read is answered so
+-- the replies to messages over a store that has failed: each command and each read is answered so
 abbrev pub AreDown : List Asked → List (List ℕ) → Type 0
 AreDown asked replies = AllZip IsDown asked replies
 

@@ -15,7 +15,7 @@ ghost use Rattle.site_request.specs.declared.asked.Asked.{Asked as TheAsked};
 ghost use Rattle.site_replies.specs.Texts.{fault_text};
 ghost use Rattle.wire.specs.Frame.{IsFrame};
 ghost use Rattle.wire.specs.declared.fault.WireFault.{WireFault};
-ghost use Rattle.site.specs.Answers.{IsAppended, IsBegun, IsDown, IsReadable, IsReported, broken_text, without_keep, zone_of};
+ghost use Rattle.site.specs.Replies.{IsAppended, IsBegun, IsDown, IsReadable, IsReported, broken_text, without_keep, zone_of};
 ghost use Rattle.site.specs.Histories.{Steps};
 ghost use Rattle.site.specs.Lent.{LendsKeep};
 
@@ -30,7 +30,7 @@ use std::alloc::Global;
 use std::borrow::CowSlice;
 use wire::{Request, broken_frame, whole};
 
-/// The bytes of an answer. Those that report want of memory or a failure take none.
+/// The bytes of a reply. Those that report want of memory or a failure take none.
 pub type Reply = CowSlice<'static, u8>;
 
 /// The engine over a keep.
@@ -68,7 +68,7 @@ fn or_fault_text(acted: Result<(), KeepFault>, closes: bool) -> Result<(), &'sta
     }
 }
 
-// The answer to a message for whose body memory was refused. A failed store goes first.
+// The reply to a message for whose body memory was refused. A failed store goes first.
 fn unread_text<K: Keep>(keep: &K, closes: bool) -> &'static [u8]
     ensures failed { K.is_failed keep.now ≡ true → result.now ≡ fault_text KeepFault.Store closes }
     ensures going { K.is_failed keep.now ≡ false → result.now ≡ fault_text KeepFault.Memory closes }
@@ -146,9 +146,9 @@ impl<K: Keep + Drop> Site<K> {
     }
 
     /// Answers a message, after what the buffer holds. Where memory was refused or the keep fails,
-    /// the buffer has what it had, and the answer is a text that is ready. Over a keep that has
+    /// the buffer has what it had, and the reply is a text that is ready. Over a keep that has
     /// failed each command and each read is answered so, never that memory was refused.
-    pub fn answer_into(
+    pub fn reply_into(
         &mut self,
         request: &Request<'_>,
         out: &mut Vec<u8>,
@@ -168,20 +168,20 @@ impl<K: Keep + Drop> Site<K> {
     }
 
     // Answers a message by bytes of its own.
-    fn answer_whole(&mut self, request: &Request<'_>) -> Reply
+    fn reply_whole(&mut self, request: &Request<'_>) -> Reply
         ensures step { Steps K.Keep (zone_of self.old)
             (asked_of (Ok request.now)) (cow_slice_items result) self.old.keep self.new.keep }
         ensures zone { zone_of self.new ≡ zone_of self.old }
     {
         let mut text = Vec::new(self.alloc);
-        match self.answer_into(request, &mut text) {
+        match self.reply_into(request, &mut text) {
             Ok(()) => CowSlice::Owned(text),
             Err(ready) => CowSlice::Borrowed(ready),
         }
     }
 
-    /// Answers a text that is to be one message. The answer to a broken frame takes no memory.
-    pub fn answer(&mut self, message: &[u8]) -> Reply
+    /// Answers a text that is to be one message. The reply to a broken frame takes no memory.
+    pub fn reply(&mut self, message: &[u8]) -> Reply
         ensures step { (asked : TheAsked) × IsAsked message.now asked
             × Steps K.Keep (zone_of self.old)
             asked (cow_slice_items result) self.old.keep self.new.keep }
@@ -193,7 +193,7 @@ impl<K: Keep + Drop> Site<K> {
         ensures zone { zone_of self.new ≡ zone_of self.old }
     {
         match whole(message) {
-            Ok(request) => self.answer_whole(&request),
+            Ok(request) => self.reply_whole(&request),
             Err(fault) => CowSlice::Borrowed(broken_frame(fault)),
         }
     }

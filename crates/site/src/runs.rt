@@ -6,10 +6,10 @@ ghost use Rattle.steps.specs.Table.{IsBandTable};
 ghost use Rattle.house_laws.specs.Covered.{Sealed};
 ghost use Rattle.house_rows.specs.declared.settings.Settings.{Settings as TheSettings};
 ghost use Rattle.house_rows.specs.Tables.{tables_of};
-ghost use Rattle.site.specs.Answers.{zone_of};
+ghost use Rattle.site.specs.Replies.{zone_of};
 ghost use Rattle.site.specs.Histories.{OverMessages, Steps};
 ghost use Rattle.site.specs.Lives.{LeavesALife, LivesOn};
-ghost use Rattle.site.specs.Runs.{AreDown, InTurn, IsCoveredRun, IsGoing, IsHidden, Raises, Ran, StaysDown, Stopped, TellsFault, TwinRuns, answers_to, at_places};
+ghost use Rattle.site.specs.Runs.{AreDown, InTurn, IsCoveredRun, IsGoing, IsHidden, Raises, Ran, StaysDown, Stopped, TellsFault, TwinRuns, at_places, replies_to};
 ghost use Rattle.site_request.specs.Asked.{IsAsked};
 ghost use Rattle.site_request.specs.declared.asked.Asked.{Asked as TheAsked};
 ghost use Rattle.site_replies.specs.Texts.{IsServed};
@@ -54,7 +54,7 @@ impl<K: Keep + Drop> Site<K> {
             → AllZip IsAsked second seconds
             → TwinRuns settings c firsts seconds
             → at_places c firsts (map cow_slice_items v.items)
-            ≡ answers_to settings (zone_of self.old) c seconds) }
+            ≡ replies_to settings (zone_of self.old) c seconds) }
         // The same of a house that lives on, over any history; and the next run goes on from what
         // this one leaves.
         ensures isolation_from { OverMessages K.Keep self.old.keep self.new.keep
@@ -80,7 +80,7 @@ impl<K: Keep + Drop> Site<K> {
             → IsHidden settings (zone_of self.old) c place (map (λ m. m.items) messages.now) asked
             text other (map cow_slice_items v.items)) }
         // Over any keep, whatever it holds: once the store has failed, no command and no read has
-        // another answer.
+        // another reply.
         ensures down { K.is_failed self.old.keep ≡ true → (asked : List TheAsked)
             → AllZip IsAsked (map (λ m. m.items) messages.now) asked
             → IfOk result (λ v. AreDown asked (map cow_slice_items v.items)) }
@@ -98,7 +98,7 @@ impl<K: Keep + Drop> Site<K> {
             Err(_) => return Err(RunFault::Memory),
         };
         for message in messages {
-            let reply = self.answer(message);
+            let reply = self.reply(message);
             replies.push_reserved(reply);
         }
         Ok(replies)

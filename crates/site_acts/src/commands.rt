@@ -1,4 +1,4 @@
-//! What a command does: the verdict, then the bytes of its answer, and the change last.
+//! What a command does: the verdict, then the bytes of its reply, and the change last.
 ghost use Rattle.std.specs.Prelude.{◌≡◌, ◌++◌, false, OnErr, OnOk};
 ghost use Rattle.house_rows.specs.Answers.{Reads};
 ghost use Rattle.house_rows.specs.declared.message.Message.TheVariants.{Write};
@@ -16,7 +16,7 @@ use house_rows::{Change, Command, Keep, KeepFault};
 use site_replies::{ReplyRef, ReplyWriter};
 use site_results::tell;
 
-/// Carries out a command, and appends the bytes of its answer. After an `Err` the buffer has what
+/// Carries out a command, and appends the bytes of its reply. After an `Err` the buffer has what
 /// it had.
 pub(crate) fn execute<K: Keep>(
     keep: &mut K,

@@ -8,7 +8,7 @@ use house_rows::{Keep, KeepFault, Message};
 use site_replies::{ReplyRef, ReplyWriter};
 use site_request::Asked;
 
-/// Carries out what is asked, and appends the bytes of its answer. For a command that is the
+/// Carries out what is asked, and appends the bytes of its reply. For a command that is the
 /// verdict, then the bytes, and the change last; nothing grows after it. After an `Err` the buffer
 /// has what it had.
 pub fn act<K: Keep>(

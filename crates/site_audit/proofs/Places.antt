@@ -9,15 +9,15 @@ use Rattle.house_rows.specs.Tables.{Tables, tables_of}
 use Rattle.house_rows.specs.Verdict.{IsHistory}
 use Rattle.house_rows.proofs.Next.{next_is_history}
 use Rattle.settle.specs.declared.zone.Zone.{Zone}
-use Rattle.site.specs.Answers.{Answers, IsStep, answer_of, next_of}
+use Rattle.site.specs.Replies.{IsStep, Replies, next_of, reply_to}
 use Rattle.site.specs.Runs.{is_from}
-use Rattle.wire.specs.Answer.{answer_bytes, head_start, status_line}
+use Rattle.wire.specs.Response.{head_start, response_bytes, status_line}
 use Rattle.site_request.specs.Asked.{IsAsked, asked_of}
 use Rattle.site_request.specs.declared.asked.Asked.{Asked}
 use Rattle.wire.proofs.OneFrame.{one_frame}
 use Rattle.site_audit.specs.declared.fault.AuditFault.{AuditFault}
 use Rattle.site_audit.specs.declared.fault.AuditFault.TheVariants.{Memory, Store, NotNew}
-use Rattle.site_audit.specs.Places.{ArePaired, Heard, IsAnswerReported, IsJudged, IsPlaceReported, IsSeen, reply_at}
+use Rattle.site_audit.specs.Places.{ArePaired, Heard, IsJudged, IsPlaceReported, IsReplyReported, IsSeen, reply_at}
 use Rattle.site_replies.specs.Texts.{digits_in, fault_text, is_failure}
 use Rattle.site_replies.proofs.StatusLemmas.{memory_reported, reply_served, store_reported}
 
@@ -27,21 +27,21 @@ not_both false is other = cc
 
 -- want of memory isn't reported as a failure
 memory_goes : (closes : Bool) → is_failure (fault_text keep_fault.Memory closes) ≡ false
-unfolding fault_text digits_in answer_bytes head_start status_line
+unfolding fault_text digits_in response_bytes head_start status_line
 memory_goes closes = refl
 
--- an answer of a step that was looked at
-pub answer_reported : {K R : Type 0} (content : K → Tables) (is_failed : K → Bool)
+-- a reply of a step that was looked at
+pub reply_reported : {K R : Type 0} (content : K → Tables) (is_failed : K → Bool)
     (may_leave : K → Tables → Type 0) (items : R → List ℕ)
     (settings : Settings) (zone : Zone) (h : History) (asked : Asked) (given : R) (old new : K)
     (result : Result R AuditFault)
-    → Answers content is_failed may_leave settings zone h asked (items given) old new
+    → Replies content is_failed may_leave settings zone h asked (items given) old new
     → IsJudged items given result
-    → IsAnswerReported content is_failed items settings zone h asked new result
-unfolding answer_of
-answer_reported content is_failed may_leave items settings zone h asked given old new (Ok same) answers
+    → IsReplyReported content is_failed items settings zone h asked new result
+unfolding reply_to
+reply_reported content is_failed may_leave items settings zone h asked given old new (Ok same) replied
     (e, served) =
-    elim answers.outcome [
+    elim replied.outcome [
       | inl done ↦ (ap items e ∙ done.report, done.tables)
       | inr other ↦ elim other [
         | inl wanting ↦ absurd (not_both _ (memory_reported asked.closes)
@@ -50,11 +50,11 @@ answer_reported content is_failed may_leave items settings zone h asked given ol
             (rw failed.report at served.not_failed))
       ]
     ]
-answer_reported content is_failed may_leave items settings zone h asked given old new (Err Memory)
-    answers wanting = tt
-answer_reported content is_failed may_leave items settings zone h asked given old new (Err Store)
-    answers failing =
-    elim answers.outcome [
+reply_reported content is_failed may_leave items settings zone h asked given old new (Err Memory)
+    replied wanting = tt
+reply_reported content is_failed may_leave items settings zone h asked given old new (Err Store)
+    replied failing =
+    elim replied.outcome [
       | inl done ↦ absurd (not_both _ (rw done.report at failing)
           (reply_served zone asked.closes (reply settings h asked.message)).not_failed)
       | inr other ↦ elim other [
@@ -63,8 +63,8 @@ answer_reported content is_failed may_leave items settings zone h asked given ol
         | inr failed ↦ failed.failed
       ]
     ]
-answer_reported content is_failed may_leave items settings zone h asked given old new (Err NotNew)
-    answers judged = absurd judged
+reply_reported content is_failed may_leave items settings zone h asked given old new (Err NotNew)
+    replied judged = absurd judged
 
 -- the same of a text, whatever it was found to ask
 pub step_reported : {K R : Type 0} (content : K → Tables) (is_failed : K → Bool)
@@ -75,13 +75,13 @@ pub step_reported : {K R : Type 0} (content : K → Tables) (is_failed : K → B
     → IsStep content is_failed is_honest may_leave zone found (items given) old new
     → IsJudged items given result → is_honest new → IsHistory settings h
     → content old ≡ tables_of settings h
-    → IsAnswerReported content is_failed items settings zone h asked new result
+    → IsReplyReported content is_failed items settings zone h asked new result
 step_reported content is_failed is_honest may_leave items settings zone h text found asked given old
     new result (f, is, e) (g, also, d) step judged honest history tables =
     let same : found ≡ asked = e ∙ ap asked_of (one_frame text f g is also) ∙ sym d in
-    answer_reported content is_failed may_leave items settings zone h asked given old new result
-    (subst (λ a. Answers content is_failed may_leave settings zone h a (items given) old new) same
-    (step.answer honest settings h history tables)) judged
+    reply_reported content is_failed may_leave items settings zone h asked given old new result
+    (subst (λ a. Replies content is_failed may_leave settings zone h a (items given) old new) same
+    (step.replies honest settings h history tables)) judged
 
 -- the fault that a fault was made into
 pub place_gave : {K : Type 0} (content : K → Tables) (is_failed : K → Bool)
@@ -97,11 +97,11 @@ place_gave content is_failed settings zone c h k x y before after left right fau
     subst (λ f. IsPlaceReported content is_failed settings zone c h k x y before after left right
     (Err f)) (sym gave.1) place
 
--- a left answer that isn't given
+-- a left reply that isn't given
 pub place_left : {K R : Type 0} (content : K → Tables) (is_failed : K → Bool) (items : R → List ℕ)
     (settings : Settings) (zone : Zone) (c : ℕ) (h k : History) (x y : Heard)
     (before after : List (List ℕ)) (left right : K) (fault : AuditFault)
-    → IsAnswerReported content is_failed items settings zone h x.asked left (Err fault)
+    → IsReplyReported content is_failed items settings zone h x.asked left (Err fault)
     → IsPlaceReported content is_failed settings zone c h k x y before after left right (Err fault)
 place_left content is_failed items settings zone c h k x y before after left right Memory report = tt
 place_left content is_failed items settings zone c h k x y before after left right Store report =
@@ -109,11 +109,11 @@ place_left content is_failed items settings zone c h k x y before after left rig
 place_left content is_failed items settings zone c h k x y before after left right NotNew report =
     report
 
--- a right answer that isn't given
+-- a right reply that isn't given
 pub place_right : {K R : Type 0} (content : K → Tables) (is_failed : K → Bool) (items : R → List ℕ)
     (settings : Settings) (zone zone' : Zone) (c : ℕ) (h k : History) (x y : Heard)
     (before after : List (List ℕ)) (left right : K) (fault : AuditFault)
-    → IsAnswerReported content is_failed items settings zone' k y.asked right (Err fault)
+    → IsReplyReported content is_failed items settings zone' k y.asked right (Err fault)
     → IsPlaceReported content is_failed settings zone c h k x y before after left right (Err fault)
 place_right content is_failed items settings zone zone' c h k x y before after left right Memory
     report = tt
@@ -152,7 +152,7 @@ place_seen content is_failed settings zone c h k x y before after left right lef
 -- what is kept of a reply is the reply at its place
 pub reply_kept : {R : Type 0} (items : R → List ℕ) (settings : Settings) (zone : Zone) (c : ℕ)
     (h : History) (asked : Asked) (given : R) (mine : Bool) (before after : List (List ℕ))
-    → mine ≡ is_from c asked → items given ≡ answer_of settings zone h asked
+    → mine ≡ is_from c asked → items given ≡ reply_to settings zone h asked
     → after ≡ before ++ (if mine then items given ∷ [] else [])
     → after ≡ before ++ reply_at settings zone c h asked
 reply_kept items settings zone c h asked given mine before after e d kept =

@@ -10,9 +10,9 @@ use Rattle.house_rows.specs.Runs.{history_from}
 use Rattle.house_rows.specs.Tables.{Tables, tables_of}
 use Rattle.house_rows.specs.Verdict.{IsHistory}
 use Rattle.settle.specs.declared.zone.Zone.{Zone}
-use Rattle.site.specs.Answers.{answer_of, next_of}
+use Rattle.site.specs.Replies.{next_of, reply_to}
 use Rattle.site.specs.declared.engine.Site.{Site}
-use Rattle.site.specs.Lives.{TwinRunsFrom, answers_to_from}
+use Rattle.site.specs.Lives.{TwinRunsFrom, replies_to_from}
 use Rattle.site.specs.Runs.{meant, rendered}
 use Rattle.house_laws.specs.Alike.{AreAlike}
 use Rattle.house_laws.proofs.Alike as laws
@@ -34,7 +34,7 @@ pub record SoFar {K : Type 0} (content : K → Tables) (settings : Settings) (zo
     (h k : History) (lefts rights : List Heard) (replies : List (List ℕ)) (left right : K)
     : Type 0 where
   pub twins : AreTwinTextsFrom settings c h k lefts rights
-  pub kept : replies ≡ answers_to_from settings zone c h (what_is_asked lefts)
+  pub kept : replies ≡ replies_to_from settings zone c h (what_is_asked lefts)
   pub have : Have content settings (heard_history settings h lefts)
       (heard_history settings k rights) left right
   pub left_is : IsHistory settings (heard_history settings h lefts)
@@ -54,7 +54,7 @@ at_place settings c h k x y here = record { paired = here.0; agree = here.1 }
 -- isolation, of what is asked
 isolated : (settings : Settings) (zone : Zone) (c : ℕ) (h k : History) (left right : List Asked)
     → AreAlike settings c h k → TwinRunsFrom settings c h k left right
-    → answers_to_from settings zone c h left ≡ answers_to_from settings zone c k right
+    → replies_to_from settings zone c h left ≡ replies_to_from settings zone c k right
 isolated settings zone c h k left right alike twin =
     laws.rendered_same meant (rendered zone) settings c h k left right alike twin
 
@@ -88,15 +88,15 @@ so_far_none content settings zone c h k left right is is' e d = record {
   right_is = is';
 }
 
-answers_more : (settings : Settings) (zone : Zone) (c : ℕ) (h : History) (heards : List Heard)
-    (x : Heard) → answers_to_from settings zone c h (what_is_asked (heards ++ x ∷ []))
-    ≡ answers_to_from settings zone c h (what_is_asked heards)
+heard_replies_more : (settings : Settings) (zone : Zone) (c : ℕ) (h : History) (heards : List Heard)
+    (x : Heard) → replies_to_from settings zone c h (what_is_asked (heards ++ x ∷ []))
+    ≡ replies_to_from settings zone c h (what_is_asked heards)
     ++ reply_at settings zone c (heard_history settings h heards) x.asked
-unfolding answer_of
-answers_more settings zone c h heards x =
-    ap (answers_to_from settings zone c h) (asked_more heards x)
+unfolding reply_to
+heard_replies_more settings zone c h heards x =
+    ap (replies_to_from settings zone c h) (asked_more heards x)
     ∙ replies_more meant (rendered zone) settings c h (what_is_asked heards) x.asked
-    ∙ ap (λ (ms : List (Message Fault)). answers_to_from settings zone c h (what_is_asked heards)
+    ∙ ap (λ (ms : List (Message Fault)). replies_to_from settings zone c h (what_is_asked heards)
     ++ reply_at settings zone c (history_from settings h ms) x.asked) (asked_means heards)
 
 -- one more place that goes on
@@ -114,7 +114,7 @@ so_far_more content settings zone c h k lefts rights x y before after left right
       kept = goes.kept
           ∙ ap (λ rs. rs ++ reply_at settings zone c (heard_history settings h lefts) x.asked)
           so.kept
-          ∙ sym (answers_more settings zone c h lefts x);
+          ∙ sym (heard_replies_more settings zone c h lefts x);
       have = record {
         left_has = goes.have.left_has
             ∙ ap (tables_of settings) (sym (heard_more settings h lefts x));

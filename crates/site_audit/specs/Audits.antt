@@ -5,7 +5,7 @@ use Rattle.house_rows.specs.declared.settings.Settings.{Settings}
 use Rattle.house_rows.specs.Runs.{AreTwins, history_of}
 use Rattle.house_rows.specs.Tables.{Tables, tables_of}
 use Rattle.settle.specs.declared.zone.Zone.{Zone}
-use Rattle.site.specs.Runs.{answers_to}
+use Rattle.site.specs.Runs.{replies_to}
 use Rattle.site_request.specs.declared.asked.Asked.{Asked}
 use Rattle.site_audit.specs.declared.fault.AuditFault.{AuditFault}
 use Rattle.site_audit.specs.declared.fault.AuditFault.TheVariants.{Memory, Store, NotNew}
@@ -33,8 +33,8 @@ AreTwinTexts settings c lefts rights = AreTwins heard_message settings c lefts r
 pub record AreEqual {K : Type 0} (content : K → Tables) (settings : Settings) (zone : Zone) (c : ℕ)
     (lefts rights : List Heard) (replies : List (List ℕ)) (left_keep right_keep : K) : Type 0 where
   pub twins : AreTwinTexts settings c lefts rights
-  pub left : replies ≡ answers_to settings zone c (what_is_asked lefts)
-  pub right : replies ≡ answers_to settings zone c (what_is_asked rights)
+  pub left : replies ≡ replies_to settings zone c (what_is_asked lefts)
+  pub right : replies ≡ replies_to settings zone c (what_is_asked rights)
   pub left_tables : content left_keep ≡ tables_of settings (history_of settings (map heard_message lefts))
   pub right_tables : content right_keep ≡ tables_of settings (history_of settings (map heard_message rights))
 

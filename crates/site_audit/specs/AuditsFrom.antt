@@ -7,7 +7,7 @@ use Rattle.house_rows.specs.History.{History}
 use Rattle.house_rows.specs.Runs.{AreTwinsFrom, history_from}
 use Rattle.house_rows.specs.Tables.{Tables, tables_of}
 use Rattle.settle.specs.declared.zone.Zone.{Zone}
-use Rattle.site.specs.Lives.{answers_to_from}
+use Rattle.site.specs.Lives.{replies_to_from}
 use Rattle.site_audit.specs.declared.fault.AuditFault.{AuditFault}
 use Rattle.site_audit.specs.declared.fault.AuditFault.TheVariants.{Memory, Store, NotNew}
 use Rattle.site_audit.specs.declared.verdict.Verdict.{Verdict}
@@ -31,8 +31,8 @@ pub record AreEqualFrom {K : Type 0} (content : K → Tables) (settings : Settin
     (c : ℕ) (h k : History) (lefts rights : List Heard) (replies : List (List ℕ))
     (left_keep right_keep : K) : Type 0 where
   pub twins : AreTwinTextsFrom settings c h k lefts rights
-  pub left : replies ≡ answers_to_from settings zone c h (what_is_asked lefts)
-  pub right : replies ≡ answers_to_from settings zone c k (what_is_asked rights)
+  pub left : replies ≡ replies_to_from settings zone c h (what_is_asked lefts)
+  pub right : replies ≡ replies_to_from settings zone c k (what_is_asked rights)
   pub left_tables : content left_keep ≡ tables_of settings (heard_history settings h lefts)
   pub right_tables : content right_keep ≡ tables_of settings (heard_history settings k rights)
   pub alike : AreAlike settings c (heard_history settings h lefts) (heard_history settings k rights)

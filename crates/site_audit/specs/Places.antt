@@ -6,7 +6,7 @@ use Rattle.house_rows.specs.History.{History}
 use Rattle.house_rows.specs.Runs.{Agrees}
 use Rattle.house_rows.specs.Tables.{Tables, tables_of}
 use Rattle.settle.specs.declared.zone.Zone.{Zone}
-use Rattle.site.specs.Answers.{answer_of, next_of, zone_of}
+use Rattle.site.specs.Replies.{next_of, reply_to, zone_of}
 use Rattle.site.specs.Runs.{is_from}
 use Rattle.site.specs.declared.engine.Site.{Site}
 use Rattle.site_request.specs.Asked.{IsAsked}
@@ -54,7 +54,7 @@ pub record IsTwinPlace (settings : Settings) (c : ℕ) (h k : History) (x y : He
 -- the reply at one place, where it is the caller's
 abbrev pub reply_at : Settings → Zone → ℕ → History → Asked → List (List ℕ)
 reply_at settings zone c h asked =
-    if is_from c asked then answer_of settings zone h asked ∷ [] else []
+    if is_from c asked then reply_to settings zone h asked ∷ [] else []
 
 -- two keeps have the tables of these histories
 pub record Have {K : Type 0} (content : K → Tables) (settings : Settings) (h k : History)
@@ -94,7 +94,7 @@ IsSeen content is_failed P left right left_new right_new (Err Store) =
     (is_failed left_new ≡ true) ⊎ (is_failed right_new ≡ true)
 IsSeen content is_failed P left right left_new right_new (Err NotNew) = ⊥
 
--- an answer that was looked at is given on, or says that memory was refused, or reports a failure
+-- a reply that was looked at is given on, or says that memory was refused, or reports a failure
 abbrev pub IsJudged : {R : Type 0} → (R → List ℕ) → R → Result R AuditFault → Type 0
 IsJudged items reply (Ok same) = (same ≡ reply) × IsServed (items reply)
 IsJudged items reply (Err Memory) = is_refusal_of_memory (items reply) ≡ true
@@ -103,11 +103,11 @@ IsJudged items reply (Err NotNew) = ⊥
 
 -- a message is answered by the definitions, and the keep has the tables after it; or memory was
 -- refused, or the store has failed
-abbrev pub IsAnswerReported : {K R : Type 0} → (K → Tables) → (K → Bool) → (R → List ℕ) → Settings → Zone
+abbrev pub IsReplyReported : {K R : Type 0} → (K → Tables) → (K → Bool) → (R → List ℕ) → Settings → Zone
     → History → Asked → K → Result R AuditFault → Type 0
-IsAnswerReported content is_failed items settings zone h asked new (Ok reply) =
-    (items reply ≡ answer_of settings zone h asked)
+IsReplyReported content is_failed items settings zone h asked new (Ok reply) =
+    (items reply ≡ reply_to settings zone h asked)
     × (content new ≡ tables_of settings (next_of settings h asked))
-IsAnswerReported content is_failed items settings zone h asked new (Err Memory) = Unit {0}
-IsAnswerReported content is_failed items settings zone h asked new (Err Store) = is_failed new ≡ true
-IsAnswerReported content is_failed items settings zone h asked new (Err NotNew) = ⊥
+IsReplyReported content is_failed items settings zone h asked new (Err Memory) = Unit {0}
+IsReplyReported content is_failed items settings zone h asked new (Err Store) = is_failed new ≡ true
+IsReplyReported content is_failed items settings zone h asked new (Err NotNew) = ⊥

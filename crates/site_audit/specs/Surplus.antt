@@ -6,7 +6,7 @@ use Rattle.house_rows.specs.declared.settings.Settings.{Settings}
 use Rattle.house_rows.specs.Runs.{history_of}
 use Rattle.house_rows.specs.Tables.{Tables, tables_of}
 use Rattle.settle.specs.declared.zone.Zone.{Zone}
-use Rattle.site.specs.Runs.{answers_to}
+use Rattle.site.specs.Runs.{replies_to}
 use Rattle.site_audit.specs.declared.fault.AuditFault.{AuditFault}
 use Rattle.site_audit.specs.declared.fault.AuditFault.TheVariants.{Memory, Store, NotNew}
 use Rattle.site_audit.specs.declared.outcome.Surplus.{Surplus}
@@ -28,8 +28,8 @@ pub record IsHiddenBid {K : Type 0} (content : K → Tables) (settings : Setting
   pub covered : IsCoveredText settings c place y bid heards
   pub text : Heard
   pub raise : IsRaise y bid text
-  pub left : replies ≡ answers_to settings zone c (what_is_asked heards)
-  pub right : replies ≡ answers_to settings zone c (what_is_asked (raised place text heards))
+  pub left : replies ≡ replies_to settings zone c (what_is_asked heards)
+  pub right : replies ≡ replies_to settings zone c (what_is_asked (raised place text heards))
   pub left_tables : content left_keep
       ≡ tables_of settings (history_of settings (map heard_message heards))
   pub right_tables : content right_keep

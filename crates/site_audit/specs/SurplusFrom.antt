@@ -8,7 +8,7 @@ use Rattle.house_rows.specs.History.{History}
 use Rattle.house_rows.specs.Runs.{history_from}
 use Rattle.house_rows.specs.Tables.{Tables, tables_of}
 use Rattle.settle.specs.declared.zone.Zone.{Zone}
-use Rattle.site.specs.Lives.{answers_to_from}
+use Rattle.site.specs.Lives.{replies_to_from}
 use Rattle.site_audit.specs.declared.fault.AuditFault.{AuditFault}
 use Rattle.site_audit.specs.declared.fault.AuditFault.TheVariants.{Memory, Store, NotNew}
 use Rattle.site_audit.specs.declared.outcome.Surplus.{Surplus}
@@ -46,9 +46,9 @@ pub record IsHiddenBidFrom {K : Type 0} (content : K → Tables) (settings : Set
   pub covered : IsCoveredTextFrom settings h c place y bid heards
   pub text : Heard
   pub raise : IsRaise y bid text
-  pub left : replies ≡ answers_to_from settings zone c h (what_is_asked heards)
+  pub left : replies ≡ replies_to_from settings zone c h (what_is_asked heards)
   pub right : replies
-      ≡ answers_to_from settings zone c h (what_is_asked (raised place text heards))
+      ≡ replies_to_from settings zone c h (what_is_asked (raised place text heards))
   pub left_tables : content left_keep ≡ tables_of settings (heard_history settings h heards)
   pub right_tables : content right_keep
       ≡ tables_of settings (heard_history settings h (raised place text heards))

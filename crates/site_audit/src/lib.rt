@@ -2,14 +2,13 @@
 //! and whether it shows to others how far a bid lies above what leading takes.
 //!
 //! Promised: two lists are found equal exactly where they are twin runs for the caller, and then
-//! one list of replies is the answers to it along both; else the result is the first place at which
+//! one list is the replies to it along both; else the result is the first place at which
 //! they are none. A bid's surplus is found hidden exactly where the bid is covered, with the
 //! replies to another, the same whether it is raised or not. `audit_from` and `surplus_from` say it
 //! of houses that live on. And a stream of messages is read into a list. Read `specs/Audits.antt`
 //! first, and then `audit`, `specs/Surplus.antt` and `surplus`.
 #![tactic(auto)]
 
-mod answers;
 mod bids;
 mod fault;
 mod leadership;
@@ -18,6 +17,7 @@ mod outcome;
 mod pair;
 mod place;
 mod raised_bid;
+mod replies;
 mod texts;
 mod verdict;
 

@@ -5,12 +5,12 @@ ghost use Rattle.house_rows.specs.declared.settings.Settings.{Settings as TheSet
 ghost use Rattle.house_rows.specs.History.{History};
 ghost use Rattle.house_rows.specs.Tables.{tables_of};
 ghost use Rattle.house_rows.specs.Verdict.{IsHistory};
-ghost use Rattle.site.specs.Answers.{zone_of};
+ghost use Rattle.site.specs.Replies.{zone_of};
 ghost use Rattle.site_audit.specs.Places.{Heard, IsHeard, IsPlaceReported, IsUsed, keep_of};
 
-use crate::answers::answer;
 use crate::fault::AuditFault;
 use crate::pair::sites_agree;
+use crate::replies::reply;
 use crate::texts::{is_callers, may_pair};
 use house_rows::Keep;
 use site::{Reply, Site};
@@ -55,8 +55,8 @@ pub(crate) fn take_place<K: Keep + Drop>(
     if !may_pair(text, other, caller) {
         return Ok(false);
     }
-    let reply = answer(left, text)?;
-    answer(right, other)?;
-    keep_reply(replies, reply, is_callers(text, caller))?;
+    let left_reply = reply(left, text)?;
+    reply(right, other)?;
+    keep_reply(replies, left_reply, is_callers(text, caller))?;
     sites_agree(left, right, caller)
 }

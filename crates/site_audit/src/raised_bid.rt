@@ -8,7 +8,7 @@ ghost use Rattle.house_rows.specs.History.{History};
 ghost use Rattle.house_rows.specs.Tables.{tables_of};
 ghost use Rattle.house_rows.specs.Verdict.{IsHistory};
 ghost use Rattle.settle.specs.declared.zone.Zone.{Zone as TheZone};
-ghost use Rattle.site.specs.Answers.{zone_of};
+ghost use Rattle.site.specs.Replies.{zone_of};
 ghost use Rattle.site_audit.specs.AuditsFrom.{IsFoundFrom};
 ghost use Rattle.site_audit.specs.Places.{Heard, IsHeard, IsUsed, keep_of};
 ghost use Rattle.site_audit.specs.SealedBids.{IsBidAt, IsRaise, MayRaise};

@@ -6,7 +6,7 @@ ghost use Rattle.house_rows.specs.declared.settings.Settings.{Settings as TheSet
 ghost use Rattle.house_rows.specs.History.{History};
 ghost use Rattle.house_rows.specs.Tables.{tables_of};
 ghost use Rattle.house_rows.specs.Verdict.{IsHistory};
-ghost use Rattle.site.specs.Answers.{zone_of};
+ghost use Rattle.site.specs.Replies.{zone_of};
 ghost use Rattle.site_audit.specs.Audits.{IsVerdict};
 ghost use Rattle.site_audit.specs.AuditsFrom.{IsFoundFrom};
 ghost use Rattle.site_audit.specs.Places.{Heard, IsHeard, IsUsed, keep_of};

@@ -6,7 +6,7 @@ use Rattle.device.specs.declared.source.Source as source
 use Rattle.house_rows.specs.Tables.{Tables}
 use Rattle.house_rows.specs.declared.keep.Keep as keep
 use Rattle.settle.specs.declared.zone.Zone.{Zone}
-use Rattle.site.specs.Answers.{IsStep}
+use Rattle.site.specs.Replies.{IsStep}
 use Rattle.site_serve.specs.Ends.{HasEnded}
 use Rattle.site_serve.specs.Lives.{HasLived, LeavesLives}
 use Rattle.site_serve.specs.Serving.{HasRead, HasServed, HasWritten, IsFlushed}

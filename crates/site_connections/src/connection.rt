@@ -6,7 +6,7 @@ use site_serve::{ServeFault, Served};
 pub struct Connection<R, W> {
     /// Where its messages come from.
     pub source: R,
-    /// Where its answers go.
+    /// Where its replies go.
     pub sink: W,
 }
 

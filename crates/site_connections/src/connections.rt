@@ -14,7 +14,7 @@ pub trait Connections {
     /// Where the messages of a connection come from.
     type Input: Source + Drop;
 
-    /// Where its answers go.
+    /// Where its replies go.
     type Output: Sink + Drop;
 
     /// What accepting gives, between what there was and what there is.

@@ -1,7 +1,7 @@
 //! Serving connections in turn.
 ghost use Rattle.std.specs.Prelude.{◌≡◌, ◌↔◌, true, Err, IfErr, OnOk};
 ghost use Rattle.device.specs.declared.failure.Failure.{Failure as TheFailure};
-ghost use Rattle.site.specs.Answers.{zone_of};
+ghost use Rattle.site.specs.Replies.{zone_of};
 ghost use Rattle.site_connections.specs.Turns.{HasFailed, HasStopped, ServesOne, Takes, TakesEach, TakesWell};
 ghost use Rattle.site_serve.specs.Serving.{keep_of};
 
@@ -106,7 +106,7 @@ fn serve_well<C: Connections, K: Keep + Drop>(
 ///
 /// Each is served as `serve` says, whatever the result, or given up as it came. Nothing changes the
 /// keep between them. `Accept` where accepting one failed, so that fewer came; `Store` after the one in
-/// which the keep failed, since every later answer could only say so.
+/// which the keep failed, since every later reply could only say so.
 pub fn serve_each<C: Connections, K: Keep + Drop>(
     alloc: Global,
     connections: &mut C,

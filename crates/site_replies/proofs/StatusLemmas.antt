@@ -19,7 +19,7 @@ use Rattle.site_request.specs.declared.fault.Fault.TheVariants as fault
 use Rattle.site_replies.specs.Texts.{IsServed, digits_in, fault_text, is_failure, is_refusal_of_memory, page_status, reply_status, reply_text, result_status}
 use Rattle.status.specs.declared.Status.{Status}
 use Rattle.status.specs.declared.Status.TheVariants.{Success, Created, BadRequest, Forbidden, NotFound, MethodNotAllowed, Conflict, ContentTooLarge, InternalServerError, NotImplemented, ServiceUnavailable}
-use Rattle.wire.specs.Answer.{answer_bytes, head_start, status_line}
+use Rattle.wire.specs.Response.{head_start, response_bytes, status_line}
 use Rattle.wire.specs.Fault as frame
 use Rattle.wire.specs.declared.fault.WireFault.{WireFault}
 use Rattle.wire.specs.declared.fault.WireFault.TheVariants as wire
@@ -39,10 +39,10 @@ digits_of InternalServerError = codes "500"
 digits_of NotImplemented = codes "501"
 digits_of ServiceUnavailable = codes "503"
 
--- an answer has them at their place
+-- a reply has them at their place
 digits : (s : Status) (allow : Option Methods) (closes : Bool) (body : List ℕ)
-    → digits_in (answer_bytes s allow closes body) ≡ digits_of s
-unfolding digits_in answer_bytes head_start status_line
+    → digits_in (response_bytes s allow closes body) ≡ digits_of s
+unfolding digits_in response_bytes head_start status_line
 digits Success allow closes body = refl
 digits Created allow closes body = refl
 digits BadRequest allow closes body = refl
@@ -61,7 +61,7 @@ Serves s =
     (bytes_eq (digits_of s) (codes "500") ≡ false) × (bytes_eq (digits_of s) (codes "503") ≡ false)
 
 by_status : (s : Status) (allow : Option Methods) (closes : Bool) (body : List ℕ) → Serves s
-    → IsServed (answer_bytes s allow closes body)
+    → IsServed (response_bytes s allow closes body)
 by_status s allow closes body serves = record {
   not_failed = rw (digits s allow closes body) serves.0;
   not_wanting = rw (digits s allow closes body) serves.1;

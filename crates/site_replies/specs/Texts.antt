@@ -20,7 +20,7 @@ use Rattle.site_replies.specs.declared.reply_ref.ReplyRef.{ReplyRef}
 use Rattle.site_replies.specs.declared.reply_ref.ReplyRef.TheVariants as ref
 use Rattle.status.specs.declared.Status.{Status}
 use Rattle.status.specs.declared.Status.TheVariants.{Created, InternalServerError, ServiceUnavailable, Success}
-use Rattle.wire.specs.Answer.{answer_bytes, error_body}
+use Rattle.wire.specs.Response.{error_body, response_bytes}
 use Rattle.wire.specs.declared.methods.Methods.{Methods}
 
 -- what a reply that is to be written says
@@ -47,7 +47,7 @@ reply_status (Denied refusal) = refusal_status refusal
 reply_status (Shows page) = page_status page
 reply_status (Faulty fault) = status_of fault
 
--- the methods that an answer allows
+-- the methods that a reply allows
 abbrev pub reply_allow : Reply Fault → Option Methods
 reply_allow (Faulty fault) = allow_of fault
 reply_allow _ = None
@@ -62,7 +62,7 @@ reply_body zone (Faulty fault) = body_of fault
 -- the one text of a reply; the connection ends after it or not
 unfoldable pub reply_text : Zone → Bool → Reply Fault → List ℕ
 reply_text zone closes reply =
-    answer_bytes (reply_status reply) (reply_allow reply) closes (reply_body zone reply)
+    response_bytes (reply_status reply) (reply_allow reply) closes (reply_body zone reply)
 
 -- a reply that can be written: its page can
 abbrev pub ReplyFits : Reply Fault → Type 0
@@ -72,17 +72,17 @@ ReplyFits _ = Unit {0}
 -- the text where memory was refused, the store failed, or a row doesn't fit
 unfoldable pub fault_text : KeepFault → Bool → List ℕ
 fault_text keep_fault.Memory closes =
-    answer_bytes ServiceUnavailable None closes (error_body (codes "memory"))
+    response_bytes ServiceUnavailable None closes (error_body (codes "memory"))
 fault_text keep_fault.Store closes =
-    answer_bytes InternalServerError None closes (error_body (codes "store"))
+    response_bytes InternalServerError None closes (error_body (codes "store"))
 fault_text keep_fault.Damaged closes =
-    answer_bytes InternalServerError None closes (error_body (codes "damaged"))
+    response_bytes InternalServerError None closes (error_body (codes "damaged"))
 
--- the three digits of the status of an answer
+-- the three digits of the status of a reply
 unfoldable pub digits_in : List ℕ → List ℕ
 digits_in text = take 3 (drop 9 text)
 
--- whether an answer is 503: memory was refused
+-- whether a reply is 503: memory was refused
 abbrev pub is_refusal_of_memory : List ℕ → Bool
 is_refusal_of_memory text = bytes_eq (digits_in text) (codes "503")
 
@@ -90,7 +90,7 @@ is_refusal_of_memory text = bytes_eq (digits_in text) (codes "503")
 abbrev pub is_failure : List ℕ → Bool
 is_failure text = bytes_eq (digits_in text) (codes "500")
 
--- an answer that is neither
+-- a reply that is neither
 pub record IsServed (text : List ℕ) : Type 0 where
   pub not_failed : is_failure text ≡ false
   pub not_wanting : is_refusal_of_memory text ≡ false

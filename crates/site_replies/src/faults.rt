@@ -1,11 +1,11 @@
-//! The answers that take no memory.
+//! The replies that take no memory.
 ghost use Rattle.std.specs.Prelude.{◌≡◌};
 ghost use Rattle.site_replies.specs.Texts.{fault_text};
 
 use house_rows::KeepFault;
 use wire::{damaged_row, failed_store, no_memory};
 
-/// The bytes of the answer to a message that met a fault of the keep, which are ready and take no
+/// The bytes of the reply to a message that met a fault of the keep, which are ready and take no
 /// memory: 503 where memory was refused, else 500 (RFC 9110, 15.6.4 and 15.6.1).
 #[tactic(auto, unfolding(crate::specs::Texts::fault_text))]
 pub fn fault_text(fault: KeepFault, closes: bool) -> &'static [u8]

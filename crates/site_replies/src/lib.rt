@@ -1,4 +1,4 @@
-//! The bytes of every answer: status, fields, and a body of JSON.
+//! The bytes of every reply: status, fields, and a body of JSON.
 //!
 //! Promised: a reply of the house has one text, which follows from the reply alone, and from the
 //! zone where it is a statement; and the text says its status. Read `specs/Texts.antt` first, and

@@ -9,7 +9,7 @@ use pages_json::append;
 use pages_text::{AsCommandResult, AsRefusals, append_page};
 use settle::Zone;
 use std::alloc::Global;
-use wire::{Answer, Status};
+use wire::{Response, Status};
 
 /// Writes replies: the zone by which it counts days, and a kept buffer for the body, whose length
 /// is written before it.
@@ -63,15 +63,15 @@ impl ReplyWriter {
                 page_status(page)
             }
             // Its body is at hand, so it isn't copied into the kept buffer.
-            ReplyRef::Faulty(fault) => return Ok(fault.answer(closes).write_into(out)?),
+            ReplyRef::Faulty(fault) => return Ok(fault.response(closes).write_into(out)?),
         };
-        let answer = Answer {
+        let response = Response {
             status,
             allow: None,
             closes,
             body: self.body.as_slice(),
         };
-        Ok(answer.write_into(out)?)
+        Ok(response.write_into(out)?)
     }
 }
 

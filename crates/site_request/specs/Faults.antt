@@ -4,7 +4,7 @@ use Rattle.site_request.specs.Fields.{name_of}
 use Rattle.site_request.specs.declared.field.Field.{Field}
 use Rattle.status.specs.declared.Status.{Status}
 use Rattle.status.specs.declared.Status.TheVariants.{BadRequest, MethodNotAllowed, NotFound}
-use Rattle.wire.specs.Answer.{error_body}
+use Rattle.wire.specs.Response.{error_body}
 use Rattle.wire.specs.Fault as frame
 use Rattle.wire.specs.declared.fault.WireFault.{WireFault}
 use Rattle.wire.specs.declared.methods.Methods.{Methods}

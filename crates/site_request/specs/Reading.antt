@@ -7,8 +7,8 @@ use Rattle.site_request.specs.declared.asked.Asked.{Asked}
 use Rattle.site_request.specs.declared.asked.NoMemory.{NoMemory}
 use Rattle.site_request.specs.declared.fault.Fault.{Fault}
 
--- memory was refused for the body: it is known whether the answer ends the connection, and nothing in
--- front of the body is wrong
+-- memory was refused for the body: it is known whether the reply ends the connection, and nothing
+-- in front of the body is wrong
 abbrev pub IsUnread : NoMemory → Asked → Type 0
 IsUnread refused asked = (refused.closes ≡ asked.closes) × (may_ask asked.message ≡ true)
 

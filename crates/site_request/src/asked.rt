@@ -1,11 +1,11 @@
-//! What a message asks, with what else its answer needs.
+//! What a message asks, with what else its reply needs.
 use crate::fault::Fault;
 use house_rows::Message;
 
-/// What a message asks, and the one thing beside it that its answer shows.
+/// What a message asks, and the one thing beside it that its reply shows.
 #[derive(Drop)]
 pub struct Asked {
-    /// Whether the connection ends after the answer.
+    /// Whether the connection ends after the reply.
     pub closes: bool,
     /// What is asked.
     pub message: Message<Fault>,
@@ -14,6 +14,6 @@ pub struct Asked {
 /// Memory was refused while a message was read.
 #[derive(Clone, Copy)]
 pub struct NoMemory {
-    /// Whether the connection ends after the answer.
+    /// Whether the connection ends after the reply.
     pub closes: bool,
 }

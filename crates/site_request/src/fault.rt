@@ -3,7 +3,7 @@ ghost use Rattle.std.specs.Prelude.{◌≡◌};
 ghost use Rattle.site_request.specs.Faults.{allow_of, body_of, field_body, frame_body, status_of};
 
 use crate::field::Field;
-use wire::{Answer, Methods, Status, WireFault};
+use wire::{Methods, Response, Status, WireFault};
 
 /// Why a message asks for nothing: the first that holds, in this order.
 #[derive(Clone, Copy)]
@@ -29,7 +29,7 @@ pub enum Fault {
 }
 
 impl Fault {
-    /// The status of its answer.
+    /// The status of its response.
     pub fn status(self) -> Status
         ensures { result ≡ status_of self }
     {
@@ -41,7 +41,7 @@ impl Fault {
         }
     }
 
-    /// The methods that its answer allows.
+    /// The methods that its response allows.
     pub fn allow(self) -> Option<Methods>
         ensures { result ≡ allow_of self }
     {
@@ -51,7 +51,7 @@ impl Fault {
         }
     }
 
-    /// The body of its answer.
+    /// The body of its response.
     pub fn body(self) -> &'static str
         ensures { result.now ≡ body_of self }
     {
@@ -68,14 +68,14 @@ impl Fault {
         }
     }
 
-    /// Its answer, after which the connection ends or not.
-    pub fn answer(self, closes: bool) -> Answer<'static>
+    /// Its response, after which the connection ends or not.
+    pub fn response(self, closes: bool) -> Response<'static>
         ensures status { result.status ≡ status_of self }
         ensures allow { result.allow ≡ allow_of self }
         ensures closes { result.closes ≡ closes }
         ensures body { result.body.now ≡ body_of self }
     {
-        Answer {
+        Response {
             status: self.status(),
             allow: self.allow(),
             closes,
@@ -84,7 +84,7 @@ impl Fault {
     }
 }
 
-// The body of the answer to a broken frame.
+// The body of the response to a broken frame.
 fn frame_body(fault: WireFault) -> &'static str
     ensures { result.now ≡ frame_body fault }
 {
@@ -99,7 +99,7 @@ fn frame_body(fault: WireFault) -> &'static str
     }
 }
 
-// The body of the answer to a field that is absent or of another kind.
+// The body of the response to a field that is absent or of another kind.
 fn field_body(field: Field) -> &'static str
     ensures { result.now ≡ field_body field }
 {

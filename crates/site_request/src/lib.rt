@@ -1,4 +1,4 @@
-//! What one message asks of the house: the first step of every answer.
+//! What one message asks of the house: the first step of every reply.
 //!
 //! Promised: a text asks for one thing, which follows from its bytes alone: a command or a read
 //! with its caller, or nothing, for the first fault in the order in which faults are judged; and a

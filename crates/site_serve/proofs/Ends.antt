@@ -19,7 +19,7 @@ use Rattle.house_rows.specs.Verdict.{IsHistory, verdict}
 use Rattle.house_rows.proofs.Next.{next_broken, next_is_history, next_read, next_refused}
 use Rattle.house_rows.proofs.Put.{by_test}
 use Rattle.settle.specs.declared.zone.Zone.{Zone}
-use Rattle.site.specs.Answers.{IsAnswered, IsFailed, IsStep, IsWanting, next_of}
+use Rattle.site.specs.Replies.{IsAnswered, IsFailed, IsStep, IsWanting, next_of}
 use Rattle.site.specs.Runs.{AreDown, InTurn}
 use Rattle.site.proofs.Isolated.{lives_on}
 use Rattle.site.proofs.Left.{leaves_a_life}
@@ -134,7 +134,7 @@ unfolding next_of
 not_entered settings h m not = stays settings h m.message not
 
 -- one more message before those that were kept
-kept_after_answer : {K : Type 0} (content : K → Tables) (is_failed : K → Bool)
+kept_after_reply : {K : Type 0} (content : K → Tables) (is_failed : K → Bool)
     (may_leave : K → Tables → Type 0) (settings : Settings) (zone : Zone) (h after : History)
     (m : Asked) (r : List ℕ) (ms : List Asked) (rs : List (List ℕ)) (old mid new : K)
     → IsAnswered content is_failed may_leave settings zone h m r old mid
@@ -142,7 +142,7 @@ kept_after_answer : {K : Type 0} (content : K → Tables) (is_failed : K → Boo
     ⊎ ((is_failed old ≡ false) × (t ≡ tables_of settings (next_of settings h m))))
     → IsKept content is_failed may_leave settings zone (next_of settings h m) ms rs after mid new
     → IsKept content is_failed may_leave settings zone h (m ∷ ms) (r ∷ rs) after old new
-kept_after_answer content is_failed may_leave settings zone h after m r ms rs old mid new done
+kept_after_reply content is_failed may_leave settings zone h after m r ms rs old mid new done
     crash kept =
     record {
       run = inl (done.report, kept.run);
@@ -272,13 +272,13 @@ left_of content is_failed is_honest may_leave settings zone h (m ∷ ms) [] old 
     absurd turn
 left_of content is_failed is_honest may_leave settings zone h (m ∷ ms) (r ∷ rs) old new
     (mid, step, turn) honest is e =
-    let answers = step.answer (honest_before content is_failed is_honest may_leave zone ms rs mid
+    let replied = step.replies (honest_before content is_failed is_honest may_leave zone ms rs mid
     new turn honest) settings h is e in
-    elim answers.outcome [
+    elim replied.outcome [
       | inl done ↦ left_after content is_failed may_leave settings zone h (next_of settings h m) m
           r ms rs old mid new
-          (λ first firsts after between kept. kept_after_answer content is_failed may_leave
-          settings zone h after m r first firsts old mid between done answers.crash kept)
+          (λ first firsts after between kept. kept_after_reply content is_failed may_leave
+          settings zone h after m r first firsts old mid between done replied.crash kept)
           (left_of content is_failed is_honest may_leave settings zone (next_of settings h m) ms rs
           mid new turn honest (next_is settings h m is) done.tables)
       | inr other ↦ elim other [
@@ -289,7 +289,7 @@ left_of content is_failed is_honest may_leave settings zone h (m ∷ ms) (r ∷ 
             (left_of content is_failed is_honest may_leave settings zone h ms rs mid new turn honest
             is (wanting.tables ∙ e))
         | inr failed ↦ inr (failed_first content is_failed is_honest may_leave settings zone h m r
-            ms rs old mid new is e honest failed answers.crash
+            ms rs old mid new is e honest failed replied.crash
             (failing content is_failed is_honest may_leave zone ms rs mid new turn failed.failed))
       ]
     ]
@@ -428,8 +428,8 @@ ended_so_far content is_failed is_honest may_leave zone left now later before af
     (λ well. rw (append-nil (concat run.replies)) (Appends-kept before after last
     (concat run.replies) run.written flushed))
 
--- the writer failed in the answer to one more message
-pub ended_in_answer : {K : Type 0} (content : K → Tables) (is_failed : K → Bool)
+-- the writer failed in the reply to one more message
+pub ended_in_reply : {K : Type 0} (content : K → Tables) (is_failed : K → Bool)
     (is_honest : K → Type 0) (may_leave : K → Tables → Type 0) (zone : Zone)
     (left now before after last : Option (List ℕ)) (old new next : K) (held rest r : List ℕ)
     (m : Message) (count most : ℕ)
@@ -439,7 +439,7 @@ pub ended_in_answer : {K : Type 0} (content : K → Tables) (is_failed : K → B
     → AppendsBeginning after last r
     → HasLived content is_failed is_honest may_leave zone left now most before last (Err fault.Write)
     old next
-ended_in_answer content is_failed is_honest may_leave zone left now before after last old new next
+ended_in_reply content is_failed is_honest may_leave zone left now before after last old new next
     held rest r m count most run fewer here step part =
     let (stop, cut) = cut_last run.messages run.read held rest m run.off here in
     lived content is_failed is_honest may_leave zone left now before last most
@@ -452,7 +452,7 @@ ended_in_answer content is_failed is_honest may_leave zone left now before after
     run.written part)))
     (λ well. absurd cc)
 
--- it ended after the answer to a message that ends the connection
+-- it ended after the reply to a message that ends the connection
 pub ended_closed : {K : Type 0} (content : K → Tables) (is_failed : K → Bool)
     (is_honest : K → Type 0) (may_leave : K → Tables → Type 0) (zone : Zone)
     (left now before after given last : Option (List ℕ)) (report : Result Served ServeFault)
@@ -484,7 +484,7 @@ fault_held : (held : List ℕ) (has_ended : Bool) (f : WireFault) → IsFaultOf 
 fault_held held true f here = here
 fault_held held false f here = subst (λ l. IsFront l (Err f)) (append-nil held) (here [])
 
--- it ended in the answer to a broken rest, or after it
+-- it ended in the reply to a broken rest, or after it
 pub ended_in_fault : {K : Type 0} (content : K → Tables) (is_failed : K → Bool)
     (is_honest : K → Type 0) (may_leave : K → Tables → Type 0) (zone : Zone)
     (left now before after last : Option (List ℕ)) (report : Result Served ServeFault)

@@ -14,7 +14,7 @@ use Rattle.wire.specs.Message.{Message}
 use Rattle.wire.specs.declared.fault.WireFault.{WireFault}
 use Rattle.house_rows.specs.Tables.{Tables}
 use Rattle.settle.specs.declared.zone.Zone.{Zone}
-use Rattle.site.specs.Answers.{IsStep}
+use Rattle.site.specs.Replies.{IsStep}
 use Rattle.site.specs.Runs.{InTurn}
 use Rattle.site_request.specs.declared.asked.Asked.{Asked}
 use Rattle.wire.proofs.Fronts.{message_stays}
@@ -23,7 +23,7 @@ use Rattle.site_serve.specs.declared.server.Served.{Served}
 use Rattle.site_serve.specs.Serving.{HasRead, HasServed, HasWritten, IsFlushed, fault_bytes, heard}
 use Rattle.site_serve.proofs.Cuts.{TakenOff, by_end, concat_push, cut_closed, cut_last, cut_of, ends, last_of, off_more, off_push, turn_length, turn_push}
 
--- serving so far: what was read, of which the messages were taken off and the rest is held; their answers, which were written
+-- serving so far: what was read, of which the messages were taken off and the rest is held; their replies, which were written
 pub record Serving {K : Type 0} (Step : Asked → List ℕ → K → K → Type 0) (left now before after : Option (List ℕ)) (old new : K)
     (held : List ℕ) (count : ℕ) : Type 0 where
   pub read : List ℕ
@@ -227,13 +227,13 @@ pub whole_begins : (before after last : Option (List ℕ)) (text : List ℕ) →
 whole_begins before after last text wrote kept =
     (length text, omega arith, rw (take_all (length text) text (omega arith)) (Appends-kept before after last text wrote kept))
 
--- the writer failed in an answer
-pub failed_in_answer : {K : Type 0} (Step : Asked → List ℕ → K → K → Type 0) (left now before after last : Option (List ℕ))
+-- the writer failed in a reply
+pub failed_in_reply : {K : Type 0} (Step : Asked → List ℕ → K → K → Type 0) (left now before after last : Option (List ℕ))
     (old new next : K) (held rest r : List ℕ) (m : Message) (count most : ℕ)
     → Serving Step left now before after old new held count → count < most → IsMessageAt held m rest → Step (heard m) r new next
     → AppendsBeginning after last r
     → IfSome left (λ stream. HasWritten Step stream most before last old next)
-failed_in_answer Step left now before after last old new next held rest r m count most run fewer here step (n, within, wrote) =
+failed_in_reply Step left now before after last old new next held rest r m count most run fewer here step (n, within, wrote) =
     of_stream left now run.read held run.messages _ run.took run.off (λ stream tail is off.
     let (stop, cut) = cut_last run.messages stream (held ++ tail) (rest ++ tail) m off (message_stays held tail m rest here) in
     let size = length-append run.messages (m ∷ []) in
@@ -251,7 +251,7 @@ failed_in_answer Step left now before after last old new next held rest r m coun
       written = Appends-trans before after last (concat run.replies) (take n r) run.written wrote;
     }))
 
--- the writer failed after an answer
+-- the writer failed after a reply
 pub failed_after : {K : Type 0} (Step : Asked → List ℕ → K → K → Type 0) (left now before after last : Option (List ℕ)) (old new : K)
     (held : List ℕ) (count most : ℕ)
     → Serving Step left now before after old new held count → 0 < count → count ≤ most → Keeps after last
@@ -275,7 +275,7 @@ failed_after Step left now before after last old new held count most run some fe
       written = subst (Appends before last) text (Appends-kept before after last (concat run.replies) run.written kept);
     }))
 
--- the writer failed in the answer to a broken rest
+-- the writer failed in the reply to a broken rest
 pub failed_in_fault : {K : Type 0} (Step : Asked → List ℕ → K → K → Type 0) (left now before after last : Option (List ℕ)) (old new : K)
     (held : List ℕ) (count most : ℕ) (ended : Bool) (f : WireFault)
     → Serving Step left now before after old new held count → count < most → (ended ≡ true → IsAtEnd now) → held ≢ []

@@ -9,7 +9,7 @@ use Rattle.house_rows.specs.History.{History}
 use Rattle.house_rows.specs.Tables.{Tables, tables_of}
 use Rattle.house_rows.specs.Verdict.{IsHistory}
 use Rattle.settle.specs.declared.zone.Zone.{Zone}
-use Rattle.site.specs.Answers.{IsStep, next_of}
+use Rattle.site.specs.Replies.{IsStep, next_of}
 use Rattle.site.specs.Runs.{AreDown, InTurn, IsRun, StaysDown}
 use Rattle.site_request.specs.declared.asked.Asked.{Asked}
 use Rattle.site_replies.specs.Texts.{fault_text}
@@ -64,7 +64,7 @@ Leaves content is_failed may_leave zone asked replies old new =
     ⊎ HasFailed content is_failed may_leave settings zone h asked replies old new
 
 -- however serving ended: these messages of what was read were answered in turn, and a beginning of
--- their answers was written, or of these and the answer to a broken rest
+-- their replies was written, or of these and the reply to a broken rest
 pub record HasEnded {K : Type 0} (content : K → Tables) (is_failed : K → Bool)
     (is_honest : K → Type 0) (may_leave : K → Tables → Type 0) (zone : Zone)
     (left now : Option (List ℕ)) (most : ℕ) (before after : Option (List ℕ)) (old new : K)

@@ -8,7 +8,7 @@ use Rattle.house_rows.specs.History.{History}
 use Rattle.house_rows.specs.Tables.{Tables, tables_of}
 use Rattle.house_rows.specs.Verdict.{IsHistory}
 use Rattle.settle.specs.declared.zone.Zone.{Zone}
-use Rattle.site.specs.Answers.{IsStep}
+use Rattle.site.specs.Replies.{IsStep}
 use Rattle.site.specs.Lives.{LeavesALife, LivesOn}
 use Rattle.site.specs.Runs.{InTurn}
 use Rattle.site_replies.specs.Texts.{IsServed}
@@ -19,8 +19,8 @@ use Rattle.site_serve.specs.declared.server.ServeFault.{ServeFault}
 use Rattle.site_serve.specs.declared.server.Served.{Served}
 
 -- however serving ended: these messages of what was read were answered in turn. What was written is
--- a beginning of their answers and that to a broken rest, and all of it where serving ended well.
--- Over every history whose tables the keep had: where all were served, the answers are isolated,
+-- a beginning of their replies and that to a broken rest, and all of it where serving ended well.
+-- Over every history whose tables the keep had: where all were served, the replies are isolated,
 -- and the keep has the tables of the history after them
 pub record HasLived {K : Type 0} (content : K → Tables) (is_failed : K → Bool)
     (is_honest : K → Type 0) (may_leave : K → Tables → Type 0) (zone : Zone)

@@ -6,7 +6,7 @@ use Rattle.site.specs.Runs.{InTurn}
 use Rattle.site.specs.declared.engine.Site.{Site}
 use Rattle.site_request.specs.Asked.{asked_of}
 use Rattle.site_request.specs.declared.asked.Asked.{Asked}
-use Rattle.wire.specs.Answer.{answer_bytes, error_body}
+use Rattle.wire.specs.Response.{error_body, response_bytes}
 use Rattle.wire.specs.Cut.{Cut, Stop, closed, limit, clean, broken}
 use Rattle.wire.specs.Fault.{status_of, word_of}
 use Rattle.wire.specs.Front.{EndsInBody, EndsInHead}
@@ -24,9 +24,9 @@ keep_of site = site.keep
 abbrev pub heard : Message → Asked
 heard m = asked_of (Ok m)
 
--- the answer to a broken rest
+-- the reply to a broken rest
 abbrev pub fault_bytes : WireFault → List ℕ
-fault_bytes f = answer_bytes (status_of f) None true (error_body (word_of f))
+fault_bytes f = response_bytes (status_of f) None true (error_body (word_of f))
 
 -- what is written for a rest
 abbrev pub rest_bytes : Stop → List ℕ
@@ -72,8 +72,8 @@ pub record HasRead {K : Type 0}
   pub answered : InTurn Step (map heard messages) replies old new
   pub written : Appends before after (concat replies)
 
--- the writer failed in an answer: the stream's first messages were answered, the last of them in part
-pub record InAnswer {K : Type 0}
+-- the writer failed in a reply: the stream's first messages were answered, the last of them in part
+pub record InReply {K : Type 0}
     (Step : Asked → List ℕ → K → K → Type 0) (stream : List ℕ) (most : ℕ)
     (before after : Option (List ℕ)) (old new : K) : Type 0 where
   pub messages : List Message
@@ -88,7 +88,7 @@ pub record InAnswer {K : Type 0}
   pub within : part ≤ length last
   pub written : Appends before after (concat whole ++ take part last)
 
--- the writer failed in the answer to a broken rest
+-- the writer failed in the reply to a broken rest
 pub record InFault {K : Type 0}
     (Step : Asked → List ℕ → K → K → Type 0) (stream : List ℕ) (most : ℕ)
     (before after : Option (List ℕ)) (old new : K) : Type 0 where
@@ -106,7 +106,7 @@ pub record InFault {K : Type 0}
 abbrev pub HasWritten : {K : Type 0} → (Asked → List ℕ → K → K → Type 0) → List ℕ → ℕ
     → Option (List ℕ) → Option (List ℕ) → K → K → Type 0
 HasWritten Step stream most before after old new =
-    InAnswer Step stream most before after old new ⊎ InFault Step stream most before after old new
+    InReply Step stream most before after old new ⊎ InFault Step stream most before after old new
 
 -- the sink is as it was, or has handed on all that it took
 abbrev pub IsFlushed : {W : Type 0} → (W → Option (List ℕ)) → (W → Option (List ℕ))

@@ -1,8 +1,9 @@
-//! A stream of messages in, their answers out, over the site.
+//! A stream of messages in, their replies out, over the site.
 //!
 //! Promised: what is written follows from the bytes of the stream, however reads are cut: the
-//! answers of the messages of its cut, and then that of a broken rest. All of it is handed on before
-//! each wait for more bytes and at the end. Read `specs/Serving.antt` first, and then `serve`.
+//! replies of the messages of its cut, and then that of a broken rest. All of it is handed on
+//! before each wait for more bytes and at the end. Read `specs/Serving.antt` first, and then
+//! `serve`.
 #![tactic(auto)]
 
 mod laws;

@@ -2,7 +2,7 @@
 ghost use Rattle.std.specs.Prelude.{◌≡◌, ◌⊎◌, ◌↔◌, ◌++◌, ◌<◌, ℕ, List, Ok, Err, true, false, length, IfOk, IfErr, IfSome, IsErr, OnOk, OnErr};
 ghost use Rattle.std.specs.Io.KnownBytes.{Appends, Consumes, IsAtEnd, Keeps};
 ghost use Rattle.device.specs.Given.{AppendsBeginning};
-ghost use Rattle.site.specs.Answers.{zone_of};
+ghost use Rattle.site.specs.Replies.{zone_of};
 ghost use Rattle.site.specs.Histories.{Steps};
 ghost use Rattle.site_request.specs.Asked.{asked_of};
 ghost use Rattle.site_serve.specs.Ends.{HasEnded};
@@ -42,7 +42,7 @@ pub struct Served {
 pub enum ServeFault {
     /// The source failed. The whole messages that had been read were answered, and no others.
     Read = 1,
-    /// The sink failed. It took a beginning of one more answer, and what that answers has acted.
+    /// The sink failed. It took a beginning of one more reply, and what that answers has acted.
     Write = 2,
     /// Memory was refused, before anything was read.
     Memory = 3,
@@ -64,7 +64,7 @@ fn fill<R: Source>(source: &mut R, inbox: &mut Inbox) -> Result<usize, Failure>
 }
 
 // Answers a message. The buffer is one that is kept, so that its room serves again.
-fn answer<W: Sink, K: Keep + Drop>(
+fn reply<W: Sink, K: Keep + Drop>(
     sink: &mut W,
     site: &mut Site<K>,
     buffer: &mut Vec<u8>,
@@ -79,7 +79,7 @@ fn answer<W: Sink, K: Keep + Drop>(
     ensures failed { IsErr result → W.has_failed sink.new ≡ true }
 {
     buffer.clear();
-    match site.answer_into(request, buffer) {
+    match site.reply_into(request, buffer) {
         Ok(()) => give_all(sink, buffer),
         Err(text) => give_all(sink, text),
     }
@@ -118,10 +118,10 @@ fn finish<W: Sink>(
 
 /// Answers at most `most` messages of a stream, and says how many those were and how it ended.
 ///
-/// What is written is the answers to the messages of the stream's cut, in turn, and after them the
-/// answer to its fault where the rest is broken. The sink hands on all that it took before each wait
+/// What is written is the replies to the messages of the stream's cut, in turn, and after them the
+/// reply to its fault where the rest is broken. The sink hands on all that it took before each wait
 /// for more bytes and at the end, unless nothing was given since it last did. A message takes no
-/// memory but what the site takes for its answer. Clause `life` gives the life that a crash leaves,
+/// memory but what the site takes for its reply. Clause `life` gives the life that a crash leaves,
 /// and that its replies are those which `isolation_over_crashes` of `house_laws` speaks of.
 pub fn serve<R: Source, W: Sink, K: Keep + Drop>(
     alloc: Global,
@@ -185,7 +185,7 @@ pub fn serve<R: Source, W: Sink, K: Keep + Drop>(
             Look::Whole(request) => {
                 let length = request.length();
                 let closes = request.closes();
-                if answer(sink, site, &mut buffer, &request).is_err() {
+                if reply(sink, site, &mut buffer, &request).is_err() {
                     return Err(ServeFault::Write);
                 }
                 given = true;

@@ -163,9 +163,9 @@ fn push_fault(
     caller: Option<u64>,
     closes: bool,
 ) -> Result<(), AllocError> {
-    let answer = fault.answer(closes);
-    write!(line, "{} {}", answer.status.code(), fault.body())?;
-    if let Some(methods) = answer.allow {
+    let response = fault.response(closes);
+    write!(line, "{} {}", response.status.code(), fault.body())?;
+    if let Some(methods) = response.allow {
         write!(line, " allow {}", methods.text())?;
     }
     match caller {

@@ -12,7 +12,7 @@
 //! answers that are ready. After `whole` and `feed` a text may come, which becomes the text.
 use crate::script::Fault;
 use crate::words::first_word;
-use crate::{answers, messages, streams, words};
+use crate::{messages, responses, streams, words};
 use std::alloc::{AllocError, Global};
 use wire::Inbox;
 
@@ -84,11 +84,11 @@ fn answer(alloc: Global, frames: &mut Frames, word: &str, rest: &str) -> Result<
         "ended" => Ok(streams::look(alloc, &frames.inbox, true)?),
         "space" => Ok(streams::space(alloc, &mut frames.inbox)?),
         "looks" => Ok(streams::looks(alloc, &frames.text)?),
-        "answer" => answers::answer(alloc, frames, rest),
-        "head" => answers::head(alloc, &frames.text, rest),
+        "answer" => responses::response(alloc, frames, rest),
+        "head" => responses::head(alloc, &frames.text, rest),
         "written" => Ok(words::spell(alloc, &frames.written)?),
-        "fixed" => answers::fixed_text(alloc, rest),
-        "fault" => answers::fault(alloc, rest),
+        "fixed" => responses::fixed_text(alloc, rest),
+        "fault" => responses::fault(alloc, rest),
         _ => Err(Fault::Script),
     }
 }

@@ -8,11 +8,11 @@
 //! be, after the mark of `transcript`.
 #![tactic(auto)]
 
-mod answers;
 mod asks;
 mod commands;
 mod frames;
 mod messages;
+mod responses;
 mod routes;
 mod runs;
 mod script;

@@ -55,7 +55,7 @@ impl Verdict {
     }
 }
 
-// A stream that comes, or whose answers go, in pieces, and what its messages have to leave.
+// A stream that comes, or whose replies go, in pieces, and what its messages have to leave.
 #[derive(Clone, Copy)]
 struct Trial<'s> {
     stage: &'s Stage,
@@ -95,27 +95,27 @@ impl Trial<'_> {
     }
 
     // Whether so many messages are answered so.
-    fn are_answers(&self, acted: usize, answers: &[u8]) -> bool {
+    fn are_replies(&self, acted: usize, replies: &[u8]) -> bool {
         match self.prefixes.get(acted) {
-            Some(prefix) => prefix.answers.bytes() == answers,
+            Some(prefix) => prefix.replies.bytes() == replies,
             None => false,
         }
     }
 
-    // Whether the answers begin so.
-    fn is_beginning(&self, answers: &[u8]) -> bool {
+    // Whether the replies begin so.
+    fn is_beginning(&self, replies: &[u8]) -> bool {
         match self.prefixes.last() {
-            Some(prefix) => prefix.answers.bytes().starts_with(answers),
+            Some(prefix) => prefix.replies.bytes().starts_with(replies),
             None => false,
         }
     }
 
-    // How many messages have acted once so many bytes of answers are written: the one that the next
-    // answer is to has.
+    // How many messages have acted once so many bytes of replies are written: the one that the next
+    // reply is to has.
     fn acted_within(&self, length: usize) -> usize {
         let mut acted = 0usize;
         for prefix in self.prefixes {
-            if prefix.answers.bytes().len() <= length {
+            if prefix.replies.bytes().len() <= length {
                 acted = acted.saturating_add(1);
             }
         }
@@ -162,10 +162,10 @@ impl Trial<'_> {
         let left = serve_over(alloc, &self.stage.setup, &mut source, &mut sink, u64::MAX)?;
         let acted = stream.whole_within(self.piece.saturating_mul(good as usize));
         let verdict = self.verdict(&left, ServeFault::Read, acted);
-        Ok(verdict.given(self.are_answers(acted, sink.bytes())))
+        Ok(verdict.given(self.are_replies(acted, sink.bytes())))
     }
 
-    // A give fails once some went well: a beginning of the answers is written, and the message that
+    // A give fails once some went well: a beginning of the replies is written, and the message that
     // the next of them is to has acted.
     fn give(&self, alloc: Global, good: u64) -> Result<Verdict, Fault>
         requires { good < 1000 }

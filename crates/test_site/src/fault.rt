@@ -26,8 +26,8 @@ pub(crate) enum Fault {
     /// A connection of the program with itself couldn't be made, or failed.
     #[error("a connection failed")]
     Socket,
-    /// The answer isn't text, or couldn't be printed.
-    #[error("the answer can't be written")]
+    /// The reply isn't text, or couldn't be printed.
+    #[error("the reply can't be written")]
     Output,
 }
 

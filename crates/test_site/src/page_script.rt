@@ -95,19 +95,19 @@ fn or_memory(
 }
 
 // What becomes of a message.
-fn answer(alloc: Global, stage: &mut Stage, text: &str) -> Result<Option<Vec<u8>>, Fault> {
+fn reply(alloc: Global, stage: &mut Stage, text: &str) -> Result<Option<Vec<u8>>, Fault> {
     let asked = stage.reader.ask(alloc, text)?;
-    stage.house.answer(alloc, &asked)
+    stage.house.reply(alloc, &asked)
 }
 
 fn get(alloc: Global, stage: &mut Stage, line: &str) -> Result<Option<Vec<u8>>, Fault> {
     let text = read(alloc, line)?;
-    answer(alloc, stage, text.as_str())
+    reply(alloc, stage, text.as_str())
 }
 
 fn post(alloc: Global, stage: &mut Stage, line: &str) -> Result<Option<Vec<u8>>, Fault> {
     let text = command(alloc, line)?;
-    answer(alloc, stage, text.as_str())
+    reply(alloc, stage, text.as_str())
 }
 
 // A line with a number in the place of each `#`.

@@ -58,11 +58,7 @@ impl House {
 
     /// Makes the change of what is asked, which is a command that is accepted, or shows what is to
     /// be.
-    pub(crate) fn answer(
-        &mut self,
-        alloc: Global,
-        asked: &Asked,
-    ) -> Result<Option<Vec<u8>>, Fault> {
+    pub(crate) fn reply(&mut self, alloc: Global, asked: &Asked) -> Result<Option<Vec<u8>>, Fault> {
         match &asked.message {
             Message::Write {
                 moment,

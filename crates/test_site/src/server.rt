@@ -74,7 +74,7 @@ pub(crate) fn serve_over<R: Source, W: Sink>(
 #[derive(Drop)]
 pub(crate) struct Prefix {
     /// What was answered.
-    pub(crate) answers: MemorySink,
+    pub(crate) replies: MemorySink,
     /// The public record after them.
     pub(crate) record: Vec<u8>,
 }
@@ -83,9 +83,9 @@ impl Prefix {
     /// Serves at most so many messages of the stream.
     pub(crate) fn new(alloc: Global, stage: &Stage, most: u64) -> Result<Prefix, Fault> {
         let mut source = MemorySource::new(stage.stream.bytes());
-        let mut answers = MemorySink::new(alloc);
-        let left = serve_over(alloc, &stage.setup, &mut source, &mut answers, most)?;
+        let mut replies = MemorySink::new(alloc);
+        let left = serve_over(alloc, &stage.setup, &mut source, &mut replies, most)?;
         let Left { record, .. } = left;
-        Ok(Prefix { answers, record })
+        Ok(Prefix { replies, record })
     }
 }

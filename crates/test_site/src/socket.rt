@@ -24,8 +24,8 @@ fn send(asking: &TcpStream, bytes: &[u8]) -> io::Result<()> {
     asking.shutdown(Shutdown::Write)
 }
 
-// Serves the stream that came, up to its end, and then ends the answers.
-fn answer(alloc: Global, stage: &Stage, answering: &TcpStream) -> Result<(), Fault> {
+// Serves the stream that came, up to its end, and then ends the replies.
+fn reply(alloc: Global, stage: &Stage, answering: &TcpStream) -> Result<(), Fault> {
     let mut source = Reading::new(answering);
     let mut sink = Writing::new(answering);
     let left = serve_over(alloc, &stage.setup, &mut source, &mut sink, u64::MAX)?;
@@ -46,7 +46,7 @@ pub(crate) fn tell_received(
 ) -> Result<Option<String>, Fault> {
     let (asking, answering) = connect_ends(rt).map_err(|_| Fault::Socket)?;
     send(&asking, stage.stream.bytes()).map_err(|_| Fault::Socket)?;
-    answer(alloc, stage, &answering)?;
+    reply(alloc, stage, &answering)?;
     match io::read_to_string(alloc, &asking) {
         Ok(report) => Ok(Some(report)),
         Err(_) => Err(Fault::Socket),

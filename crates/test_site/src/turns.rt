@@ -25,15 +25,15 @@ fn waiting_connections<'s>(
     Ok(connections)
 }
 
-// Writes the bodies of a connection's answers, which are JSON, each on a line, and how it ended.
+// Writes the bodies of a connection's replies, which are JSON, each on a line, and how it ended.
 fn write_ended(
     text: &mut String,
     ended: &Ended<MemorySource<'_>, MemorySink>,
 ) -> Result<(), Fault> {
-    let Ok(answers) = str::from_utf8(ended.connection.sink.bytes()) else {
+    let Ok(replies) = str::from_utf8(ended.connection.sink.bytes()) else {
         return Err(Fault::Output);
     };
-    for line in answers.lines() {
+    for line in replies.lines() {
         if line.starts_with('{') {
             let (body, _) = line.split_once("HTTP/").unwrap_or((line, ""));
             writeln!(text, "{body}")?;

@@ -186,7 +186,7 @@ pub(crate) fn tell_line(
         "get" => stage.add_message(alloc, read(alloc, rest)),
         "text" => stage.add_text(alloc, script, rest),
         "all" => play_all(alloc, stage, report),
-        "answers" => play_list(alloc, stage, tables(rest)?, Form::Answers, report),
+        "answers" => play_list(alloc, stage, tables(rest)?, Form::Replies, report),
         "run" => play_list(alloc, stage, tables(rest)?, Form::Run, report),
         "replay" => play_replay(alloc, stage, replay(rest)?, report),
         _ => Err(ScriptFault::Script),

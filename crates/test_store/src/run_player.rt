@@ -15,7 +15,7 @@ use std::alloc::{AllocError, Global};
 #[derive(Clone, Copy)]
 pub(crate) enum Form {
     /// Each message by itself.
-    Answers,
+    Replies,
     /// All as one list.
     Run,
 }
@@ -74,24 +74,24 @@ fn made<K: Keep + Drop, M: Makes<K>>(
     }
 }
 
-// Reports the answer to a message.
-fn tell_answer<K: Keep + Drop>(
+// Reports the reply to a message.
+fn tell_reply<K: Keep + Drop>(
     site: &mut Site<K>,
     message: &[u8],
     report: &mut Vec<u8>,
 ) -> Result<(), AllocError> {
-    let reply = site.answer(message);
+    let reply = site.reply(message);
     tell(report, &reply)
 }
 
-// Reports the answer to each message by itself.
-fn tell_answers<K: Keep + Drop>(
+// Reports the reply to each message by itself.
+fn tell_each<K: Keep + Drop>(
     site: &mut Site<K>,
     messages: &[Vec<u8>],
     report: &mut Vec<u8>,
 ) -> Result<(), ScriptFault> {
     for message in messages {
-        tell_answer(site, message, report)?;
+        tell_reply(site, message, report)?;
     }
     Ok(())
 }
@@ -159,7 +159,7 @@ fn tell_all<K: Keep + Drop>(
 ) -> Result<(), ScriptFault> {
     tell_new(site, report)?;
     match form {
-        Form::Answers => tell_answers(site, messages, report)?,
+        Form::Replies => tell_each(site, messages, report)?,
         Form::Run => tell_run(site, messages, report)?,
     }
     tell_new(site, report)?;
@@ -206,7 +206,7 @@ pub(crate) fn play_list(
 
 // The tables and forms in which a list has the same report as by itself in lists.
 const OTHERS: [(&str, Tables, Form); 3] = [
-    ("in a database", Tables::Database, Form::Answers),
+    ("in a database", Tables::Database, Form::Replies),
     ("run", Tables::Lists, Form::Run),
     ("run in a database", Tables::Database, Form::Run),
 ];
@@ -232,7 +232,7 @@ pub(crate) fn play_all(
     report: &mut Vec<u8>,
 ) -> Result<(), ScriptFault> {
     let mut first = Vec::new(alloc);
-    play_list(alloc, stage, Tables::Lists, Form::Answers, &mut first)?;
+    play_list(alloc, stage, Tables::Lists, Form::Replies, &mut first)?;
     report.extend_from_slice(&first)?;
     let mut other = Vec::new(alloc);
     for (name, tables, form) in OTHERS {

@@ -161,7 +161,7 @@ fn answer_of(reply: &[u8]) -> Result<Answer, ScriptFault> {
 
 // What is answered to a message.
 fn give<K: Keep + Drop>(site: &mut Site<K>, message: &[u8]) -> Result<Answer, ScriptFault> {
-    let reply = site.answer(message);
+    let reply = site.reply(message);
     answer_of(&reply)
 }
 

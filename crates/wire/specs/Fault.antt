@@ -15,7 +15,7 @@ number_of Size = 5
 number_of End = 6
 number_of Excess = 7
 
--- the status of its answer
+-- the status of its response
 abbrev pub status_of : WireFault → Status
 status_of Head = BadRequest
 status_of Host = BadRequest
@@ -25,7 +25,7 @@ status_of Size = ContentTooLarge
 status_of End = BadRequest
 status_of Excess = BadRequest
 
--- the word that its answer gives
+-- the word that its response gives
 abbrev pub word_of : WireFault → List ℕ
 word_of Head = codes "head"
 word_of Host = codes "host"

@@ -9,5 +9,5 @@ pub mod Known
 pub mod Look
 pub mod Cut
 pub mod Held
-pub mod Answer
+pub mod Response
 pub mod Lent

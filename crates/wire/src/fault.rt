@@ -40,7 +40,7 @@ impl WireFault {
         self as u32
     }
 
-    /// The status of its answer.
+    /// The status of its response.
     pub fn status(self) -> Status
         ensures { result ≡ status_of self }
     {
@@ -51,7 +51,7 @@ impl WireFault {
         }
     }
 
-    /// The word that its answer gives.
+    /// The word that its response gives.
     pub fn word(self) -> &'static str
         ensures { result.now ≡ word_of self }
     {

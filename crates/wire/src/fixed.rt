@@ -1,14 +1,14 @@
-//! Answers that take no memory, as texts that are ready.
+//! Responses that take no memory, as texts that are ready.
 ghost use Rattle.std.specs.Prelude.{◌≡◌, None, codes, true};
-ghost use Rattle.wire.specs.Answer.{answer_bytes, error_body};
+ghost use Rattle.wire.specs.Response.{error_body, response_bytes};
 ghost use Rattle.wire.specs.Fault.{status_of, word_of};
 ghost use Rattle.status.specs.declared.Status.TheVariants.{InternalServerError, ServiceUnavailable};
 
 use crate::fault::WireFault;
 
-/// The answer where memory was wanted. It takes none itself.
+/// The response where memory was wanted. It takes none itself.
 pub fn no_memory(closes: bool) -> &'static [u8]
-    ensures { result.now ≡ answer_bytes ServiceUnavailable None closes (error_body (codes "memory")) }
+    ensures { result.now ≡ response_bytes ServiceUnavailable None closes (error_body (codes "memory")) }
 {
     if closes {
         b"HTTP/1.1 503 Service Unavailable\r\ncontent-type: application/json\r\ncontent-length: 18\r\nconnection: close\r\n\r\n{\"error\":\"memory\"}"
@@ -17,9 +17,9 @@ pub fn no_memory(closes: bool) -> &'static [u8]
     }
 }
 
-/// The answer where the store failed.
+/// The response where the store failed.
 pub fn failed_store(closes: bool) -> &'static [u8]
-    ensures { result.now ≡ answer_bytes InternalServerError None closes (error_body (codes "store")) }
+    ensures { result.now ≡ response_bytes InternalServerError None closes (error_body (codes "store")) }
 {
     if closes {
         b"HTTP/1.1 500 Internal Server Error\r\ncontent-type: application/json\r\ncontent-length: 17\r\nconnection: close\r\n\r\n{\"error\":\"store\"}"
@@ -28,9 +28,9 @@ pub fn failed_store(closes: bool) -> &'static [u8]
     }
 }
 
-/// The answer where a row of the store doesn't fit its type.
+/// The response where a row of the store doesn't fit its type.
 pub fn damaged_row(closes: bool) -> &'static [u8]
-    ensures { result.now ≡ answer_bytes InternalServerError None closes (error_body (codes "damaged")) }
+    ensures { result.now ≡ response_bytes InternalServerError None closes (error_body (codes "damaged")) }
 {
     if closes {
         b"HTTP/1.1 500 Internal Server Error\r\ncontent-type: application/json\r\ncontent-length: 19\r\nconnection: close\r\n\r\n{\"error\":\"damaged\"}"
@@ -39,9 +39,9 @@ pub fn damaged_row(closes: bool) -> &'static [u8]
     }
 }
 
-/// The answer to a broken frame. It ends the connection.
+/// The response to a broken frame. It ends the connection.
 pub fn broken_frame(fault: WireFault) -> &'static [u8]
-    ensures { result.now ≡ answer_bytes (status_of fault) None true (error_body (word_of fault)) }
+    ensures { result.now ≡ response_bytes (status_of fault) None true (error_body (word_of fault)) }
 {
     match fault {
         WireFault::Head => {

@@ -1,12 +1,11 @@
-//! HTTP/1.x messages out of a stream of bytes that comes in any pieces, and the bytes of an answer.
+//! HTTP/1.x messages out of a stream of bytes that comes in any pieces, and the bytes of responses.
 //!
 //! Promised: which messages a stream holds follows from its bytes alone, however they are cut; a
-//! fault is reported only where it holds whatever may follow; and an answer has one text. No call
-//! but `Inbox::new` and those that write an `Answer` takes memory. Read `specs/Frame.antt` first,
+//! fault is reported only where it holds whatever may follow; and a response has one text. No call
+//! but `Inbox::new` and those that write a `Response` takes memory. Read `specs/Frame.antt` first,
 //! which says what is at the front of a stream, and then `look` and `inbox`.
 #![tactic(auto)]
 
-mod answer;
 mod fault;
 mod fields;
 mod fixed;
@@ -20,8 +19,8 @@ mod lines;
 mod look;
 mod methods;
 mod request;
+mod response;
 
-pub use answer::Answer;
 pub use fault::WireFault;
 pub use fixed::{broken_frame, damaged_row, failed_store, no_memory};
 pub use frame::whole;
@@ -33,4 +32,5 @@ pub use laws::{
 pub use look::Look;
 pub use methods::Methods;
 pub use request::Request;
+pub use response::Response;
 pub use status::Status;

@@ -1,8 +1,8 @@
-//! The methods that an answer allows.
+//! The methods that a response allows.
 ghost use Rattle.std.specs.Prelude.{◌≡◌};
-ghost use Rattle.wire.specs.Answer.{methods_text};
+ghost use Rattle.wire.specs.Response.{methods_text};
 
-/// The methods that a path has, which the answer to another method gives (RFC 9110, 10.2.1).
+/// The methods that a path has, which the response to another method gives (RFC 9110, 10.2.1).
 #[derive(Clone, Copy)]
 pub enum Methods {
     Get,

@@ -2,7 +2,7 @@ use Rattle.std.proofs.Common.{refl, ◌≡◌}
 use Rattle.auction_runs.proofs.Outcomes.{always}
 use Rattle.auction_runs.proofs.Rows.{dealt, ok_of_same, part_of_import, taken}
 use Rattle.office.specs.Imports.{keep_of}
-use Rattle.site.specs.Answers.{zone_of}
+use Rattle.site.specs.Replies.{zone_of}
 use Rattle.auction_runs.proofs.import.list_all.Goals as goal
 
 pub returns-clause-taken : goal.returns-clause-taken

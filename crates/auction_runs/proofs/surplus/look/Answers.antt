@@ -1,5 +1,5 @@
 use Rattle.std.proofs.Common.{map}
-use Rattle.site.specs.Answers.{zone_of}
+use Rattle.site.specs.Replies.{zone_of}
 use Rattle.site_audit.specs.Places.{keep_of}
 use Rattle.auction_runs.proofs.Compared.{uncompared}
 use Rattle.auction_runs.specs.Audited.{IsUnread}

@@ -3,11 +3,11 @@ use Rattle.office.proofs.imports.ask.Goals as goal
 
 pub returns-clause-report : goal.returns-clause-report
 returns-clause-report g c =
-    let (asked, by_text, step) = c.answer-reply.ensures.step in
+    let (asked, by_text, step) = c.reply-reply.ensures.step in
     record {
       asked = asked;
       by_text = by_text;
-      reply = cow_slice_items c.answer-reply.result;
+      reply = cow_slice_items c.reply-reply.result;
       step = step;
       report = rw c.deref.ensures.value at c.write_outcome.ensures.report;
       failed = rw c.deref.ensures.value at c.write_outcome.ensures.failed;

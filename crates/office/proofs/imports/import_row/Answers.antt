@@ -1,7 +1,7 @@
 use Rattle.std.proofs.Common.{sym, ◌∙◌}
 use Rattle.std.specs.Io.KnownBytes.{Appends}
 use Rattle.csv.specs.Records.{fields_of}
-use Rattle.site.specs.Answers.{IsStep, zone_of}
+use Rattle.site.specs.Replies.{IsStep, zone_of}
 use Rattle.office.specs.Imports.{keep_of}
 use Rattle.office.proofs.Listed.{spelled_listable}
 use Rattle.office.proofs.Rows.{done_row, ended_row, unprinted_row, unread_row, write_is_consistent}

@@ -3,7 +3,7 @@ use Rattle.std.specs.Io.KnownBytes.{Appends}
 use Rattle.std.proofs.KnownBytes.{Appends-trans}
 use Rattle.std.proofs.lemmas.Result.{err_from_is_err_and}
 use Rattle.csv.specs.Records.{fields_of}
-use Rattle.site.specs.Answers.{IsStep, zone_of}
+use Rattle.site.specs.Replies.{IsStep, zone_of}
 use Rattle.office.specs.declared.fault.ImportFault.TheVariants as importing
 use Rattle.office.specs.Imports.{keep_of}
 use Rattle.office.specs.Lots.{head}

@@ -1,6 +1,6 @@
 use Rattle.std.proofs.Common.{◌≡◌, ℕ, List, [], ◌∷◌}
 use Rattle.std.specs.Io.KnownBytes.{Appends}
-use Rattle.site.specs.Answers.{IsStep, zone_of}
+use Rattle.site.specs.Replies.{IsStep, zone_of}
 use Rattle.steps.specs.Reading.{HasRead}
 use Rattle.office.specs.Imports.{HasImported, HasOrdered, keep_of}
 use Rattle.office.specs.Lots.{head}

@@ -1,6 +1,6 @@
 use Rattle.std.proofs.Common.{◌≡◌, None, Some}
 use Rattle.std.specs.Io.KnownBytes.{Appends}
-use Rattle.site.specs.Answers.{IsStep, zone_of}
+use Rattle.site.specs.Replies.{IsStep, zone_of}
 use Rattle.office.specs.Imports.{keep_of}
 use Rattle.office.specs.Orders.{message_of}
 use Rattle.office.proofs.Chains.{report_done, report_ended, report_ordered}

@@ -1,7 +1,7 @@
 use Rattle.std.proofs.Common.{◌∙◌, ap, map, refl, subst, sym, Err}
 use Rattle.std.specs.List.{AllZip}
 use Rattle.house_laws.specs.Covered.{raised}
-use Rattle.site.specs.Answers.{zone_of}
+use Rattle.site.specs.Replies.{zone_of}
 use Rattle.site.proofs.Raised.{zip_raised}
 use Rattle.site_bids.specs.Spelt.{bid_text}
 use Rattle.site_audit.specs.AuditsFrom.{IsFoundFrom}

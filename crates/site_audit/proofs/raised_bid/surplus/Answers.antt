@@ -2,7 +2,7 @@ use Rattle.std.proofs.Common.{◌∙◌, [], ap, subst, sym}
 use Rattle.steps.specs.Table.{IsBandTable}
 use Rattle.house_rows.specs.declared.settings.Settings.{Settings}
 use Rattle.house_rows.specs.Tables.{tables_of}
-use Rattle.site.specs.Answers.{zone_of}
+use Rattle.site.specs.Replies.{zone_of}
 use Rattle.site_audit.specs.Places.{keep_of}
 use Rattle.site_audit.proofs.Pairs.{left_new, right_new, same_settings, settings_if}
 use Rattle.site_audit.proofs.RaisedRuns.{result_of}

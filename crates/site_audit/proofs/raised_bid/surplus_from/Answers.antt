@@ -1,6 +1,6 @@
 use Rattle.std.proofs.Common.{◌≡◌, ◌∙◌, subst, sym, false, true}
 use Rattle.house_laws.specs.Covered.{Sealed, raised}
-use Rattle.site.specs.Answers.{zone_of}
+use Rattle.site.specs.Replies.{zone_of}
 use Rattle.site_bids.specs.Spelt.{bid_text}
 use Rattle.site_audit.specs.Places.{IsHeard, keep_of}
 use Rattle.site_audit.specs.SealedBids.{IsBidAt, MayRaise}

@@ -1,6 +1,6 @@
 use Rattle.std.proofs.Common.{◌∙◌, [], ap, refl, sym}
 use Rattle.house_rows.specs.Tables.{tables_of}
-use Rattle.site.specs.Answers.{zone_of}
+use Rattle.site.specs.Replies.{zone_of}
 use Rattle.site_audit.specs.Places.{keep_of}
 use Rattle.site_audit.proofs.Pairs.{left_new, right_new, same_settings}
 use Rattle.site_audit.proofs.Runs.{found_new, verdict_of}

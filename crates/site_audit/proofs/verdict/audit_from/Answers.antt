@@ -1,7 +1,7 @@
 use Rattle.std.proofs.Common.{◌≡◌, ◌≤◌, ℕ, Global, Err, Ok, ap, arith, false, length, map, refl, sym, true}
 use Rattle.std.specs.Cow.{cow_slice_items}
 use Rattle.std.proofs.lemmas.List.{length-map}
-use Rattle.site.specs.Answers.{zone_of}
+use Rattle.site.specs.Replies.{zone_of}
 use Rattle.site_audit.specs.Places.{keep_of}
 use Rattle.site_audit.proofs.Lists.{ends_apart, next_read}
 use Rattle.site_audit.proofs.Runs.{compared_more, found_apart, found_end, found_equal, found_fault, found_gave, report_by, used_twice}

@@ -1,6 +1,6 @@
 use Rattle.std.proofs.Common.{map}
 use Rattle.std.specs.Cow.{cow_slice_items}
-use Rattle.site.specs.Answers.{zone_of}
+use Rattle.site.specs.Replies.{zone_of}
 use Rattle.site_audit.specs.Places.{IsUsed, keep_of}
 use Rattle.site_audit.proofs.Runs.{Compared}
 use Rattle.site_audit.proofs.verdict.audit_from.Given as goal

@@ -1,5 +1,5 @@
 use Rattle.std.proofs.Common.{◌-◌, ◌≡◌, ◌≤◌}
-use Rattle.site.specs.Answers.{zone_of}
+use Rattle.site.specs.Replies.{zone_of}
 use Rattle.site_connections.specs.Turns.{Takes, TakesEach, TakesWell}
 use Rattle.site_serve.specs.Serving.{keep_of}
 use Rattle.site_connections.proofs.turns.serve_each.Given as goal

@@ -2,8 +2,8 @@
 use Rattle.std.proofs.Common.{◌≡◌, ◌∙◌, [], ap, sym, refl, arith, drop, inl, inr}
 use Rattle.std.proofs.KnownBytes.{Appends-kept, Keeps-refl}
 use Rattle.site_serve.specs.Serving.{fault_bytes}
-use Rattle.site_serve.proofs.Ends.{ended_closed, ended_in_answer, ended_in_fault, ended_so_far, has_ended, leaves_lives}
-use Rattle.site_serve.proofs.Runs.{all_ok, at_err, failed_after, failed_in_answer, failed_in_fault, flushed_on, if_ok, in_zone, is_zero, on_ok, read_failed, served_broken, served_clean, served_closed, served_limit, serving_more, serving_none, serving_read, whole_begins}
+use Rattle.site_serve.proofs.Ends.{ended_closed, ended_in_fault, ended_in_reply, ended_so_far, has_ended, leaves_lives}
+use Rattle.site_serve.proofs.Runs.{all_ok, at_err, failed_after, failed_in_fault, failed_in_reply, flushed_on, if_ok, in_zone, is_zero, on_ok, read_failed, served_broken, served_clean, served_closed, served_limit, serving_more, serving_none, serving_read, whole_begins}
 use Rattle.site_serve.proofs.server.serve.Goals as goal
 
 pub loop-messages-init : goal.loop-messages-init
@@ -17,20 +17,20 @@ loop-messages-init g c = record {
   zone = refl;
 }
 
--- where the writer failed in an answer
+-- where the writer failed in a reply
 pub returns-then-is_err-clause-write : goal.returns-then-is_err-clause-write
 returns-then-is_err-clause-write g c = λ e.
-    let (r, step, wrote, part) = c.answer.ensures.step in (
-      c.answer.ensures.failed (sym c.is_err.ensures.value ∙ c.if-is_err.true),
-      failed_in_answer _ _ _ _ _ _ _ _ _ _ _ r c.in-Whole.request c.loop-messages.messages c.args.most
+    let (r, step, wrote, part) = c.reply.ensures.step in (
+      c.reply.ensures.failed (sym c.is_err.ensures.value ∙ c.if-is_err.true),
+      failed_in_reply _ _ _ _ _ _ _ _ _ _ _ r c.in-Whole.request c.loop-messages.messages c.args.most
           c.loop-messages.invariant.run c.loop-messages-test.true c.in-Whole.ensures.0
           (in_zone _ _ _ _ _ _ _ _ _ _ c.loop-messages.invariant.zone step) part,
     )
 
 pub returns-then-closes-clause-served : goal.returns-then-closes-clause-served
 returns-then-closes-clause-served g c =
-    let (r, step, wrote, part) = c.answer.ensures.step in
-    let whole = on_ok c.answer.result (sym c.is_err.ensures.value ∙ c.if-is_err.false) wrote in
+    let (r, step, wrote, part) = c.reply.ensures.step in
+    let whole = on_ok c.reply.result (sym c.is_err.ensures.value ∙ c.if-is_err.false) wrote in
     if_ok c.finish.result c.finish.ensures.served (λ served report.
     served_closed _ _ _ _ _ _ _ _ _ _ _ _ r c.in-Whole.request c.loop-messages.messages c.args.most served
     c.loop-messages.invariant.run c.loop-messages-test.true c.in-Whole.ensures.0 (sym c.closes-closes.ensures ∙ c.if-closes.true)
@@ -39,11 +39,11 @@ returns-then-closes-clause-served g c =
 
 pub returns-then-closes-clause-write : goal.returns-then-closes-clause-write
 returns-then-closes-clause-write g c = λ e.
-    let (r, step, wrote, part) = c.answer.ensures.step in
-    let whole = on_ok c.answer.result (sym c.is_err.ensures.value ∙ c.if-is_err.false) wrote in
+    let (r, step, wrote, part) = c.reply.ensures.step in
+    let whole = on_ok c.reply.result (sym c.is_err.ensures.value ∙ c.if-is_err.false) wrote in
     let fault = at_err _ c.finish.result _ e c.finish.ensures.fault in (
       fault.2,
-      failed_in_answer _ _ _ _ _ _ _ _ _ _ _ r c.in-Whole.request c.loop-messages.messages c.args.most
+      failed_in_reply _ _ _ _ _ _ _ _ _ _ _ r c.in-Whole.request c.loop-messages.messages c.args.most
           c.loop-messages.invariant.run c.loop-messages-test.true c.in-Whole.ensures.0
           (in_zone _ _ _ _ _ _ _ _ _ _ c.loop-messages.invariant.zone step)
           (whole_begins _ _ _ r whole c.finish.ensures.bytes),
@@ -51,8 +51,8 @@ returns-then-closes-clause-write g c = λ e.
 
 pub loop-messages-preserved-in-Whole : goal.loop-messages-preserved-in-Whole
 loop-messages-preserved-in-Whole g c =
-    let (r, step, wrote, part) = c.answer.ensures.step in
-    let whole = on_ok c.answer.result (sym c.is_err.ensures.value ∙ c.if-is_err.false) wrote in
+    let (r, step, wrote, part) = c.reply.ensures.step in
+    let whole = on_ok c.reply.result (sym c.is_err.ensures.value ∙ c.if-is_err.false) wrote in
     record {
       run = serving_more _ _ _ _ _ _ _ _ _ _ _ c.done.new.self.held r c.in-Whole.request c.loop-messages.messages
           c.loop-messages.invariant.run c.in-Whole.ensures.0
@@ -63,10 +63,10 @@ loop-messages-preserved-in-Whole g c =
       some = λ e. omega arith;
       flushed = λ e. absurd cc;
       source = c.loop-messages.invariant.source;
-      zone = c.answer.ensures.zone ∙ c.loop-messages.invariant.zone;
+      zone = c.reply.ensures.zone ∙ c.loop-messages.invariant.zone;
     }
 
--- where it failed as the answers so far were handed on
+-- where it failed as the replies so far were handed on
 pub returns-then-is_err-2-clause-write : goal.returns-then-is_err-2-clause-write
 returns-then-is_err-2-clause-write g c = λ e.
     let failed = c.hand_on.ensures.failed (sym c.is_err-in-More.ensures.value ∙ c.if-is_err-2.true) in (
@@ -185,15 +185,15 @@ returns-in_default-clause-isolation_from g c =
 
 pub returns-then-is_err-clause-isolation_from : goal.returns-then-is_err-clause-isolation_from
 returns-then-is_err-clause-isolation_from g c =
-    let (r, step, wrote, part) = c.answer.ensures.step in
-    ended_in_answer _ _ _ _ _ _ _ _ _ _ _ _ _ _ _ r c.in-Whole.request c.loop-messages.messages
+    let (r, step, wrote, part) = c.reply.ensures.step in
+    ended_in_reply _ _ _ _ _ _ _ _ _ _ _ _ _ _ _ r c.in-Whole.request c.loop-messages.messages
     c.args.most c.loop-messages.invariant.run c.loop-messages-test.true c.in-Whole.ensures.0
     (in_zone _ _ _ _ _ _ _ _ _ _ c.loop-messages.invariant.zone step) part
 
 pub returns-then-closes-clause-isolation_from : goal.returns-then-closes-clause-isolation_from
 returns-then-closes-clause-isolation_from g c =
-    let (r, step, wrote, part) = c.answer.ensures.step in
-    let whole = on_ok c.answer.result (sym c.is_err.ensures.value ∙ c.if-is_err.false) wrote in
+    let (r, step, wrote, part) = c.reply.ensures.step in
+    let whole = on_ok c.reply.result (sym c.is_err.ensures.value ∙ c.if-is_err.false) wrote in
     ended_closed _ _ _ _ _ _ _ _ _ _ _ _ _ _ _ _ _ r c.in-Whole.request c.loop-messages.messages
     c.args.most c.loop-messages.invariant.run c.loop-messages-test.true c.in-Whole.ensures.0
     (sym c.closes-closes.ensures ∙ c.if-closes.true)

@@ -1,11 +1,11 @@
 use Rattle.std.proofs.Common.{if◌then◌else◌, ◌-◌, ◌<◌, ◌≡◌, ◌≤◌, false, true, length, ◌+◌, ◌*◌}
 use Rattle.std.specs.Io.KnownBytes.{IsAtEnd}
-use Rattle.site.specs.Answers.{IsStep, zone_of}
+use Rattle.site.specs.Replies.{IsStep, zone_of}
 use Rattle.site_serve.specs.Serving.{IsFlushed, keep_of}
 use Rattle.site_serve.proofs.Runs.{Serving}
 use Rattle.site_serve.proofs.server.serve.Given as goal
 
--- what was read is the messages so far and what is held; their answers were written, and handed on but for those since the last flush
+-- what was read is the messages so far and what is held; their replies were written, and handed on but for those since the last flush
 abbrev pub invariant-loop-messages : goal.invariant-loop-messages
 invariant-loop-messages g l = record {
   run : Serving (IsStep g.K.Keep.content g.K.Keep.is_failed g.K.Keep.is_honest g.K.Keep.may_leave (zone_of l.fn.site))

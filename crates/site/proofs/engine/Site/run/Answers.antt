@@ -30,23 +30,23 @@ loop-message-preserved g c =
     ∙ map-append (λ m. m.items) (take i c.args.messages.now) _
     ∙ rw (← item c.message-item.result) refl in
     let replies : map cow_slice_items c.push_reserved.new.self.items
-    ≡ map cow_slice_items c.loop-message.replies.items ++ cow_slice_items c.answer-reply.result
+    ≡ map cow_slice_items c.loop-message.replies.items ++ cow_slice_items c.reply-reply.result
     ∷ [] =
     ap (map cow_slice_items) c.push_reserved.ensures.items
-    ∙ map-append cow_slice_items c.loop-message.replies.items (c.answer-reply.result ∷ []) in
-    let (asked, is, step) = c.answer-reply.ensures.step in
+    ∙ map-append cow_slice_items c.loop-message.replies.items (c.reply-reply.result ∷ []) in
+    let (asked, is, step) = c.reply-reply.ensures.step in
     record {
       steps = rw (texts, replies)
-          (turns_more _ _ _ c.message-item.result.items (cow_slice_items c.answer-reply.result)
-          c.args.self.now.keep c.loop-message.self.keep c.answer-reply.new.self.keep
+          (turns_more _ _ _ c.message-item.result.items (cow_slice_items c.reply-reply.result)
+          c.args.self.now.keep c.loop-message.self.keep c.reply-reply.new.self.keep
           c.loop-message.invariant.steps
           (asked, rw c.deref.ensures.value at is, rw c.loop-message.invariant.zone at step));
       broken = rw (texts, replies)
           (zip_more TellsFault (map (λ m. m.items) (take i c.args.messages.now))
           (map cow_slice_items c.loop-message.replies.items) c.message-item.result.items
-          (cow_slice_items c.answer-reply.result) c.loop-message.invariant.broken
-          (λ fault is. (c.answer-reply.ensures.broken fault (rw (← c.deref.ensures.value) at is)).0));
-      zone = c.answer-reply.ensures.zone ∙ c.loop-message.invariant.zone;
+          (cow_slice_items c.reply-reply.result) c.loop-message.invariant.broken
+          (λ fault is. (c.reply-reply.ensures.broken fault (rw (← c.deref.ensures.value) at is)).0));
+      zone = c.reply-reply.ensures.zone ∙ c.loop-message.invariant.zone;
       placed = omega arith;
       room = omega arith;
     }

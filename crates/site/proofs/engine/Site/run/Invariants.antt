@@ -1,7 +1,7 @@
 use Rattle.std.proofs.Common.{◌≡◌, ◌≤◌, length, map, take, vec_capacity, vec_len}
 use Rattle.std.specs.Cow.{cow_slice_items}
 use Rattle.std.specs.List.{AllZip}
-use Rattle.site.specs.Answers.{IsStep, zone_of}
+use Rattle.site.specs.Replies.{IsStep, zone_of}
 use Rattle.site.specs.Runs.{TellsFault}
 use Rattle.site.proofs.Turns.{Turns}
 use Rattle.site.proofs.engine.Site.run.Given as goal

@@ -1,8 +1,8 @@
 -- Each text computes.
 use Rattle.std.proofs.Common.{refl}
 use Rattle.status.specs.Status.{phrase_of}
-use Rattle.wire.specs.Answer.{head_start, status_line}
-use Rattle.wire.proofs.answer.head_start.Goals as goal
+use Rattle.wire.specs.Response.{head_start, status_line}
+use Rattle.wire.proofs.response.head_start.Goals as goal
 
 pub returns-in-Success : goal.returns-in-Success
 unfolding head_start status_line phrase_of

@@ -1,13 +1,13 @@
 -- The parts, one after the other.
 use Rattle.std.proofs.Common.{◌≡◌, ℕ, List, ◌++◌, append_assoc}
-use Rattle.wire.specs.Answer.{answer_bytes}
-use Rattle.wire.proofs.answer.Answer.append_to.Goals as goal
+use Rattle.wire.specs.Response.{response_bytes}
+use Rattle.wire.proofs.response.Response.append_to.Goals as goal
 
 joined : (old a b c d : List ℕ) → (((old ++ a) ++ b) ++ c) ++ d ≡ old ++ (((a ++ b) ++ c) ++ d)
 joined old a b c d = simp append_assoc
 
 pub returns-clause-ok : goal.returns-clause-ok
-unfolding answer_bytes
+unfolding response_bytes
 returns-clause-ok c =
     rw (
       c.in_ok-extend_from_slice-4.ensures.items,

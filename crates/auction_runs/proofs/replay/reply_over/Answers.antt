@@ -1,8 +1,8 @@
 use Rattle.std.proofs.Common.{rules}
 use Rattle.auction_runs.proofs.Replays.{of_record, of_serve, on_err}
-use Rattle.site.specs.Answers.{zone_of}
+use Rattle.site.specs.Replies.{zone_of}
 use Rattle.site_serve.specs.Serving.{keep_of}
-use Rattle.auction_runs.proofs.replay.answer_over.Goals as goal
+use Rattle.auction_runs.proofs.replay.reply_over.Goals as goal
 
 pub returns-in_err-serve-clause-part : goal.returns-in_err-serve-clause-part
 returns-in_err-serve-clause-part g c = λ kept_zone.

@@ -1,26 +1,26 @@
-//! The bytes of an answer.
+//! The bytes of a response.
 ghost use Rattle.std.specs.Prelude.{◌≡◌, ◌++◌, IfOk, OnErr, OnOk, take, vec_len};
-ghost use Rattle.wire.specs.Answer.{answer_bytes, head_end, head_start};
+ghost use Rattle.wire.specs.Response.{head_end, head_start, response_bytes};
 
 use crate::methods::Methods;
 use status::Status;
 use std::alloc::{AllocError, Global};
 
-// No head of an answer is longer.
+// No head of a response is longer.
 const MOST_HEAD: usize = 192;
 
-/// An answer of JSON.
+/// A response of JSON.
 #[derive(Clone, Copy)]
-pub struct Answer<'a> {
+pub struct Response<'a> {
     pub status: Status,
     /// The methods of the path, which the status 405 asks for (RFC 9110, 15.5.6).
     pub allow: Option<Methods>,
-    /// Whether the connection ends after the answer.
+    /// Whether the connection ends after the response.
     pub closes: bool,
     pub body: &'a [u8],
 }
 
-// An answer up to the number of its content-length, in one piece, so that it is one copy.
+// A response up to the number of its content-length, in one piece, so that it is one copy.
 fn head_start(status: Status) -> &'static [u8]
     ensures { result.now ≡ head_start status }
 {
@@ -55,7 +55,7 @@ fn head_start(status: Status) -> &'static [u8]
 }
 
 // What is between the number of the content-length and the body, in one piece.
-#[tactic(auto, unfolding(crate::specs::Answer::head_end, crate::specs::Answer::allow_field, crate::specs::Answer::closing_field))]
+#[tactic(auto, unfolding(crate::specs::Response::head_end, crate::specs::Response::allow_field, crate::specs::Response::closing_field))]
 fn head_end(allow: Option<Methods>, closes: bool) -> &'static [u8]
     ensures { result.now ≡ head_end allow closes }
 {
@@ -71,12 +71,12 @@ fn head_end(allow: Option<Methods>, closes: bool) -> &'static [u8]
     }
 }
 
-impl Answer<'_> {
-    /// Appends the bytes of the answer, for which room is made first. After an `Err` the buffer has
-    /// what it had.
+impl Response<'_> {
+    /// Appends the bytes of the response, for which room is made first. After an `Err` the buffer
+    /// has what it had.
     pub fn write_into(&self, out: &mut Vec<u8>) -> Result<(), AllocError>
         ensures ok { OnOk result (out.new.items
-            ≡ out.old.items ++ answer_bytes self.now.status self.now.allow self.now.closes self.now.body.now) }
+            ≡ out.old.items ++ response_bytes self.now.status self.now.allow self.now.closes self.now.body.now) }
         ensures err { OnErr result (out.new.items ≡ out.old.items) }
     {
         let before = out.len();
@@ -87,10 +87,10 @@ impl Answer<'_> {
         written
     }
 
-    // Appends the bytes of the answer, or some of them.
+    // Appends the bytes of the response, or some of them.
     fn append_to(&self, out: &mut Vec<u8>) -> Result<(), AllocError>
         ensures ok { OnOk result (out.new.items
-            ≡ out.old.items ++ answer_bytes self.now.status self.now.allow self.now.closes self.now.body.now) }
+            ≡ out.old.items ++ response_bytes self.now.status self.now.allow self.now.closes self.now.body.now) }
         ensures err { OnErr result (take (vec_len out.old) out.new.items ≡ out.old.items) }
     {
         let mut digits = itoa::Buffer::new();
@@ -102,10 +102,10 @@ impl Answer<'_> {
         Ok(())
     }
 
-    /// The bytes of the answer, in a buffer of their own.
+    /// The bytes of the response, in a buffer of their own.
     pub fn to_bytes(&self, alloc: Global) -> Result<Vec<u8>, AllocError>
         ensures { IfOk result (λ bytes. bytes.items
-            ≡ answer_bytes self.now.status self.now.allow self.now.closes self.now.body.now) }
+            ≡ response_bytes self.now.status self.now.allow self.now.closes self.now.body.now) }
     {
         let mut bytes = Vec::new(alloc);
         self.write_into(&mut bytes)?;

@@ -1,4 +1,4 @@
--- The answer to one message. Start here.
+-- The reply to one message. Start here.
 use Rattle.std.specs.Prelude.{◌≡◌, ◌⊎◌, ◌↔◌, ◌++◌, ℕ, List, [], Bool, true, false, None, Result, Ok, Err, IsErrOf, IsOk, IsSome}
 use Rattle.std.specs.Borrow.{Bor}
 use Rattle.house_rows.specs.declared.fault.KeepFault.{KeepFault}
@@ -21,7 +21,7 @@ use Rattle.site_request.specs.Asked.{may_ask}
 use Rattle.site_request.specs.declared.asked.Asked.{Asked}
 use Rattle.site_request.specs.declared.fault.Fault.{Fault}
 use Rattle.site_replies.specs.Texts.{fault_text, is_failure, reply_text}
-use Rattle.wire.specs.Answer.{answer_bytes, error_body}
+use Rattle.wire.specs.Response.{error_body, response_bytes}
 use Rattle.wire.specs.Fault.{status_of, word_of}
 use Rattle.wire.specs.declared.fault.WireFault.{WireFault}
 use Rattle.site.specs.declared.engine.Site.{Site}
@@ -30,22 +30,22 @@ use Rattle.site.specs.declared.engine.Site.{Site}
 abbrev pub zone_of : {K : Type 0} → Site K → Zone
 zone_of site = site.writer.zone
 
--- the text of the answer to what is asked
-unfoldable pub answer_of : Settings → Zone → History → Asked → List ℕ
-answer_of settings zone h asked =
+-- the text of the reply to what is asked
+unfoldable pub reply_to : Settings → Zone → History → Asked → List ℕ
+reply_to settings zone h asked =
     reply_text zone asked.closes (reply settings h asked.message)
 
 -- the history that it leaves
 unfoldable pub next_of : Settings → History → Asked → History
 next_of settings h asked = next settings h asked.message
 
--- the answer of the definitions, and the tables of the next history. After an accepted command a
+-- the reply of the definitions, and the tables of the next history. After an accepted command a
 -- crash leaves these alone
 pub record IsAnswered {K : Type 0} (content : K → Tables) (is_failed : K → Bool)
     (may_leave : K → Tables → Type 0)
     (settings : Settings) (zone : Zone) (h : History) (asked : Asked) (reply : List ℕ)
     (old new : K) : Type 0 where
-  pub report : reply ≡ answer_of settings zone h asked
+  pub report : reply ≡ reply_to settings zone h asked
   pub tables : content new ≡ tables_of settings (next_of settings h asked)
   pub same : is_failed new ≡ is_failed old
   pub kept : is_entered settings h asked.message ≡ true → (t : Tables) → may_leave new t
@@ -73,7 +73,7 @@ pub record IsFailed (asked : Asked) (reply : List ℕ) (is_failed : Bool) : Type
 
 -- what one message is answered over a history whose tables the keep has, what it leaves, and what a
 -- crash may leave
-pub record Answers {K : Type 0} (content : K → Tables) (is_failed : K → Bool)
+pub record Replies {K : Type 0} (content : K → Tables) (is_failed : K → Bool)
     (may_leave : K → Tables → Type 0)
     (settings : Settings) (zone : Zone) (h : History) (asked : Asked) (reply : List ℕ)
     (old new : K) : Type 0 where
@@ -110,9 +110,9 @@ pub record IsUnmade {K : Type 0} (content : K → Tables) (is_failed : K → Boo
 pub record IsStep {K : Type 0} (content : K → Tables) (is_failed : K → Bool)
     (is_honest : K → Type 0) (may_leave : K → Tables → Type 0)
     (zone : Zone) (asked : Asked) (reply : List ℕ) (old new : K) : Type 0 where
-  pub answer : is_honest new → (settings : Settings) (h : History) → IsHistory settings h
+  pub replies : is_honest new → (settings : Settings) (h : History) → IsHistory settings h
       → content old ≡ tables_of settings h
-      → Answers content is_failed may_leave settings zone h asked reply old new
+      → Replies content is_failed may_leave settings zone h asked reply old new
   -- over any tables, of a history or not: the message's own change is made, or nothing is changed
   pub report : IsReplied content is_failed is_honest zone asked reply old new
       ⊎ IsUnmade content is_failed is_honest may_leave asked reply old new
@@ -138,15 +138,15 @@ pub record IsStep {K : Type 0} (content : K → Tables) (is_failed : K → Bool)
   -- what asks the keep for nothing leaves it as it was
   pub asleep : is_asking asked.message ≡ false → new ≡ old
 
--- the answer comes after what a buffer held; or it is a text that is ready, and the buffer
+-- the reply comes after what a buffer held; or it is a text that is ready, and the buffer
 -- has what it had
 abbrev pub IsAppended : Result (Unit {0}) (Bor (List ℕ)) → List ℕ → List ℕ → List ℕ → Type 0
 IsAppended (Ok u) before after reply = after ≡ before ++ reply
 IsAppended (Err text) before after reply = (text.now ≡ reply) × (after ≡ before)
 
--- the answer to a text whose frame is broken
+-- the reply to a text whose frame is broken
 abbrev pub broken_text : WireFault → List ℕ
-broken_text f = answer_bytes (status_of f) None true (error_body (word_of f))
+broken_text f = response_bytes (status_of f) None true (error_body (word_of f))
 
 -- what is answered ready where a keep's call failed
 abbrev pub IsReported : Bool → Result (Unit {0}) KeepFault → Result (Unit {0}) (Bor (List ℕ)) → Type 0

@@ -1,25 +1,25 @@
 use Rattle.std.proofs.Common.{◌∙◌, ap, refl, Ok, Err}
 use Rattle.site_request.specs.Asked.{asked_of}
-use Rattle.site.specs.Answers.{broken_text}
+use Rattle.site.specs.Replies.{broken_text}
 use Rattle.site.proofs.Steps.{not_broken, one_fault, step_broken}
 use Rattle.site.proofs.Stops.{down_text}
-use Rattle.site.proofs.engine.Site.answer.Goals as goal
+use Rattle.site.proofs.engine.Site.reply.Goals as goal
 
 pub returns-in-Ok-clause-step : goal.returns-in-Ok-clause-step
 returns-in-Ok-clause-step g c = (
   asked_of (Ok c.in-Ok.request),
   (Ok c.in-Ok.request, c.in-Ok.ensures, refl),
-  c.answer_whole.ensures.step,
+  c.reply_whole.ensures.step,
 )
 
 pub returns-in-Ok-clause-down : goal.returns-in-Ok-clause-down
 returns-in-Ok-clause-down g c =
     let k = g.K.Keep in
     down_text k.content k.is_failed k.is_honest k.may_leave c.args.self.now.writer.zone
-    c.args.message.now _ c.args.self.now.keep c.answer_whole.new.self.keep (
+    c.args.message.now _ c.args.self.now.keep c.reply_whole.new.self.keep (
       asked_of (Ok c.in-Ok.request),
       (Ok c.in-Ok.request, c.in-Ok.ensures, refl),
-      c.answer_whole.ensures.step,
+      c.reply_whole.ensures.step,
     )
 
 pub returns-in-Ok-clause-broken : goal.returns-in-Ok-clause-broken

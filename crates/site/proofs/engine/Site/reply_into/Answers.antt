@@ -1,7 +1,7 @@
 use Rattle.std.proofs.Common.{refl, Ok}
 use Rattle.site_request.specs.Asked.{asked_of}
 use Rattle.site.proofs.Steps.{step_acted, step_unread}
-use Rattle.site.proofs.engine.Site.answer_into.Goals as goal
+use Rattle.site.proofs.engine.Site.reply_into.Goals as goal
 
 pub returns-in-Ok-clause-step : goal.returns-in-Ok-clause-step
 returns-in-Ok-clause-step g c =

@@ -1,32 +1,32 @@
-//! Answers, byte for byte.
+//! Responses, byte for byte.
 use crate::frames::Frames;
 use crate::script::Fault;
 use crate::words::{first_word, number, spell};
 use std::alloc::Global;
 use wire::{
-    Answer, Methods, Status, WireFault, broken_frame, damaged_row, failed_store, no_memory,
+    Methods, Response, Status, WireFault, broken_frame, damaged_row, failed_store, no_memory,
 };
 
-/// The answer of a line, which is also written after those before it.
-pub(crate) fn answer(alloc: Global, frames: &mut Frames, line: &str) -> Result<String, Fault> {
-    let answer = parse_answer(line, &frames.text)?;
-    answer.write_into(&mut frames.written)?;
-    Ok(spell(alloc, &answer.to_bytes(alloc)?)?)
+/// The response of a line, which is also written after those before it.
+pub(crate) fn response(alloc: Global, frames: &mut Frames, line: &str) -> Result<String, Fault> {
+    let response = parse_response(line, &frames.text)?;
+    response.write_into(&mut frames.written)?;
+    Ok(spell(alloc, &response.to_bytes(alloc)?)?)
 }
 
-/// What comes before the body of the answer of a line, and the length of all.
+/// What comes before the body of the response of a line, and the length of all.
 pub(crate) fn head(alloc: Global, body: &[u8], line: &str) -> Result<String, Fault> {
-    let bytes = parse_answer(line, body)?.to_bytes(alloc)?;
+    let bytes = parse_response(line, body)?.to_bytes(alloc)?;
     let length = bytes.len();
     let head = spell(alloc, &bytes[..length.saturating_sub(body.len())])?;
     Ok(format!(in alloc; "{head}, {length} bytes")?)
 }
 
-// The answer that a line spells, with a body.
-fn parse_answer<'b>(line: &str, body: &'b [u8]) -> Result<Answer<'b>, Fault> {
+// The response that a line spells, with a body.
+fn parse_response<'b>(line: &str, body: &'b [u8]) -> Result<Response<'b>, Fault> {
     let (code, line) = first_word(line);
     let (ends, methods) = first_word(line);
-    Ok(Answer {
+    Ok(Response {
         status: status_of(code)?,
         allow: METHODS.into_iter().find(|some| some.text() == methods),
         closes: closes(ends)?,
@@ -64,7 +64,7 @@ fn status_of(code: &str) -> Result<Status, Fault> {
     found.ok_or(Fault::Script)
 }
 
-/// An answer that takes no memory.
+/// A response that takes no memory.
 pub(crate) fn fixed_text(alloc: Global, line: &str) -> Result<String, Fault> {
     let (name, ends) = first_word(line);
     let closes = closes(ends)?;
@@ -87,12 +87,12 @@ const FAULTS: [WireFault; 7] = [
     WireFault::Excess,
 ];
 
-/// The fault of a number: itself, its status, its word, how it is shown, and its answer.
+/// The fault of a number: itself, its status, its word, how it is shown, and its response.
 pub(crate) fn fault(alloc: Global, word: &str) -> Result<String, Fault> {
     let wanted: u32 = number(word)?;
     let found = FAULTS.into_iter().find(|fault| fault.number() == wanted);
     let fault = found.ok_or(Fault::Script)?;
     let (status, word) = (fault.status().code(), fault.word());
-    let answer = spell(alloc, broken_frame(fault))?;
-    Ok(format!(in alloc; "{fault:?}, {status}, {word}, {fault}, {answer}")?)
+    let response = spell(alloc, broken_frame(fault))?;
+    Ok(format!(in alloc; "{fault:?}, {status}, {word}, {fault}, {response}")?)
 }

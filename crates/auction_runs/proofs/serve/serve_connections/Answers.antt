@@ -1,10 +1,10 @@
 use Rattle.std.proofs.Common.{subst, sym}
 use Rattle.std.specs.Prelude.{IfErr}
-use Rattle.site.specs.Answers.{zone_of}
+use Rattle.site.specs.Replies.{zone_of}
 use Rattle.site_connections.specs.Turns.{Takes}
 use Rattle.site_serve.specs.Serving.{keep_of}
 use Rattle.auction_runs.specs.Served.{StopsServing}
-use Rattle.auction_runs.proofs.serve.answer_each.Goals as goal
+use Rattle.auction_runs.proofs.serve.serve_connections.Goals as goal
 
 pub returns-clause-stops : goal.returns-clause-stops
 returns-clause-stops g c = subst (λ k. IfErr c.listen-answered.result

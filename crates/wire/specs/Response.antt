@@ -1,4 +1,4 @@
--- The one text of an answer: status line, fields, body.
+-- The one text of a response: status line, fields, body.
 use Rattle.std.specs.Prelude.{ℕ, List, [], ◌++◌, Bool, Option, Some, None, length, decimal, codes, if◌then◌else◌}
 use Rattle.http.specs.StatusCode.{code_digits}
 use Rattle.wire.specs.declared.methods.Methods.{Methods}
@@ -10,7 +10,7 @@ use Rattle.status.specs.declared.Status.{Status}
 unfoldable pub status_line : Status → List ℕ
 status_line status = codes "HTTP/1.1 " ++ code_digits (code_of status) ++ codes " " ++ phrase_of (code_of status) ++ codes "\r\n"
 
--- an answer up to the number of its content-length
+-- a response up to the number of its content-length
 unfoldable pub head_start : Status → List ℕ
 head_start status = status_line status ++ codes "content-type: application/json\r\ncontent-length: "
 
@@ -20,7 +20,7 @@ methods_text Get = codes "GET"
 methods_text Post = codes "POST"
 methods_text GetAndPost = codes "GET, POST"
 
--- the field that gives the methods of a path, where the answer has it
+-- the field that gives the methods of a path, where the response has it
 unfoldable pub allow_field : Option Methods → List ℕ
 allow_field None = []
 allow_field (Some methods) = codes "allow: " ++ methods_text methods ++ codes "\r\n"
@@ -33,9 +33,9 @@ closing_field closes = if closes then codes "connection: close\r\n" else []
 unfoldable pub head_end : Option Methods → Bool → List ℕ
 head_end allow closes = codes "\r\n" ++ allow_field allow ++ closing_field closes ++ codes "\r\n"
 
--- the one text of an answer
-unfoldable pub answer_bytes : Status → Option Methods → Bool → List ℕ → List ℕ
-answer_bytes status allow closes body = head_start status ++ decimal (length body) ++ head_end allow closes ++ body
+-- the one text of a response
+unfoldable pub response_bytes : Status → Option Methods → Bool → List ℕ → List ℕ
+response_bytes status allow closes body = head_start status ++ decimal (length body) ++ head_end allow closes ++ body
 
 -- the body that gives one word
 abbrev pub error_body : List ℕ → List ℕ

@@ -1,18 +1,18 @@
 use Rattle.std.proofs.Common.{inr}
 use Rattle.auction_runs.proofs.Outcomes.{on_ok_then}
 use Rattle.auction_runs.proofs.Served.{some_of_answered}
-use Rattle.site.specs.Answers.{zone_of}
+use Rattle.site.specs.Replies.{zone_of}
 use Rattle.site_connections.specs.Turns.{Takes}
 use Rattle.site_serve.specs.Serving.{keep_of}
-use Rattle.auction.proofs.service.answer_site.Goals as goal
+use Rattle.auction.proofs.service.serve_site.Goals as goal
 
 pub returns-in-Ok-clause-all : goal.returns-in-Ok-clause-all
 returns-in-Ok-clause-all g c =
-    on_ok_then c.answer_each.result.0 c.answer_each.ensures.each (λ each. record {
+    on_ok_then c.serve_connections.result.0 c.serve_connections.ensures.each (λ each. record {
       zone = zone_of c.args.site;
       kept_zone = c.requires.zone;
       came = c.in-Ok.connections;
-      gone = c.answer_each.new.connections;
+      gone = c.serve_connections.new.connections;
       each = each;
     })
 
@@ -24,6 +24,6 @@ returns-in-Ok-clause-some g c = inr (record {
   some = some_of_answered g.K.Keep.is_failed
       (Takes g.K.Keep g.C.Input.Source g.C.Output.Sink g.C.Connections.accepts g.C.Connections.ends
       (zone_of c.args.site) 10000) c.args.asked.count (c.in-Ok.connections, keep_of c.args.site)
-      (c.answer_each.new.connections, c.answer_each.result.1) c.answer_each.result.0
-      c.answer_each.ensures.each c.answer_each.ensures.stops;
+      (c.serve_connections.new.connections, c.serve_connections.result.1) c.serve_connections.result.0
+      c.serve_connections.ensures.each c.serve_connections.ensures.stops;
 })
