@@ -22,8 +22,8 @@ use Rattle.settle.specs.declared.zone.Zone.{Zone}
 use Rattle.site_acts.specs.Acted.{IfRead, IsActed, IsOwnChangeOrNone, TellsUnchanged, is_asking, is_entered}
 use Rattle.site_request.specs.Asked.{asked_of, may_ask}
 use Rattle.site_request.specs.declared.asked.Asked.{Asked}
-use Rattle.site_request.specs.declared.fault.Fault.{Fault}
-use Rattle.site_request.specs.declared.fault.Fault.TheVariants as fault
+use Rattle.site_request.specs.declared.fault.RequestFault.{RequestFault}
+use Rattle.site_request.specs.declared.fault.RequestFault.TheVariants as fault
 use Rattle.site_replies.specs.Texts.{digits_in, fault_text, is_failure, reply_text}
 use Rattle.site_replies.proofs.StatusLemmas.{reply_served, store_reported}
 use Rattle.status.specs.Status.{phrase_of}
@@ -66,7 +66,7 @@ damage_not_store : (closes : Bool) → fault_text Damaged closes ≡ fault_text 
 damage_not_store closes e = not_both _ (store_is_of_17 closes) (rw e at (damage_is_not closes))
 
 -- what asks for anything may ask
-asks_may : (message : Message Fault) → is_asking message ≡ true → may_ask message ≡ true
+asks_may : (message : Message RequestFault) → is_asking message ≡ true → may_ask message ≡ true
 asks_may (Write moment caller command) asks = refl
 asks_may (Read caller query) asks = refl
 asks_may (Broken caller f) asks = absurd (let wrong : false ≡ true = asks in cc)
@@ -108,7 +108,7 @@ same_left is_failed may_leave old new left (inl e) t may = subst (λ k. may_leav
 same_left is_failed may_leave old new left (inr going) t may = left going t may
 
 -- a read that was carried out shows its page
-read_shown : (message : Message Fault) (zone : Zone) (t : Tables) (closes : Bool) (u : Unit {0})
+read_shown : (message : Message RequestFault) (zone : Zone) (t : Tables) (closes : Bool) (u : Unit {0})
     (before after text : List ℕ) → after ≡ before ++ text
     → IfRead message (λ caller query. OnOk {E = KeepFault} (Ok u) (after ≡ before
     ++ reply_text zone closes (Shows (page_by t caller query))))
@@ -121,7 +121,7 @@ read_shown (Read caller query) zone t closes u before after text e shown =
 read_shown (Broken caller fault) zone t closes u before after text e shown = tt
 
 -- where something comes before the bytes, they alone say what became of a message
-own_text : (message : Message Fault) (zone : Zone) (t now : Tables) (closes : Bool)
+own_text : (message : Message RequestFault) (zone : Zone) (t now : Tables) (closes : Bool)
     (before after text : List ℕ) → after ≡ before ++ text
     → IsOwnChangeOrNone zone closes message t now before after
     → IsOwnChangeOrNone zone closes message t now [] text
@@ -382,7 +382,7 @@ unfolding reply_to asked_of reply reply_text
 broken_replied settings zone h f = refl
 
 broken_reply : (zone : Zone) (f : WireFault)
-    → (r : Reply Fault) × (broken_text f ≡ reply_text zone (asked_of (Err f)).closes r)
+    → (r : Reply RequestFault) × (broken_text f ≡ reply_text zone (asked_of (Err f)).closes r)
 unfolding asked_of reply_text
 broken_reply zone f = (Faulty (fault.Frame f), refl)
 

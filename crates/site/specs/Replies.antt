@@ -19,7 +19,7 @@ use Rattle.site_acts.specs.Acted.{IfRead, IsMade, IsOwnChangeOrNone, IsTaken}
 use Rattle.site_acts.specs.Acted.{MessageRowsFit, is_asking, is_entered}
 use Rattle.site_request.specs.Asked.{may_ask}
 use Rattle.site_request.specs.declared.asked.Asked.{Asked}
-use Rattle.site_request.specs.declared.fault.Fault.{Fault}
+use Rattle.site_request.specs.declared.fault.RequestFault.{RequestFault}
 use Rattle.site_replies.specs.Texts.{fault_text, is_failure, reply_text}
 use Rattle.wire.specs.Response.{error_body, response_bytes}
 use Rattle.wire.specs.Fault.{status_of, word_of}
@@ -90,7 +90,7 @@ pub record Replies {K : Type 0} (content : K → Tables) (is_failed : K → Bool
 pub record IsReplied {K : Type 0} (content : K → Tables) (is_failed : K → Bool)
     (is_honest : K → Type 0) (zone : Zone) (asked : Asked) (reply : List ℕ) (old new : K)
     : Type 0 where
-  pub text : (r : Reply Fault) × (reply ≡ reply_text zone asked.closes r)
+  pub text : (r : Reply RequestFault) × (reply ≡ reply_text zone asked.closes r)
   pub shown : is_honest new → IfRead asked.message (λ caller query.
       reply ≡ reply_text zone asked.closes
       (Shows (page_by (content old) caller query)))

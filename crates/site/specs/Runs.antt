@@ -13,7 +13,7 @@ use Rattle.house_laws.specs.Covered.{IsCovered, Sealed, bid_message, raised, wit
 use Rattle.settle.specs.declared.zone.Zone.{Zone}
 use Rattle.site_request.specs.Asked.{IsAsked}
 use Rattle.site_request.specs.declared.asked.Asked.{Asked}
-use Rattle.site_request.specs.declared.fault.Fault.{Fault}
+use Rattle.site_request.specs.declared.fault.RequestFault.{RequestFault}
 use Rattle.site_replies.specs.Texts.{fault_text, is_failure, reply_text}
 use Rattle.wire.specs.Frame.{IsFrame}
 use Rattle.wire.specs.declared.fault.WireFault.{WireFault}
@@ -30,11 +30,11 @@ replies_from settings zone h (m ∷ ms) =
     reply_to settings zone h m ∷ replies_from settings zone (next_of settings h m) ms
 
 -- what is asked
-abbrev pub meant : Asked → Message Fault
+abbrev pub meant : Asked → Message RequestFault
 meant asked = asked.message
 
 -- the text of a reply to it
-abbrev pub rendered : Zone → Asked → Reply Fault → List ℕ
+abbrev pub rendered : Zone → Asked → Reply RequestFault → List ℕ
 rendered zone asked reply = reply_text zone asked.closes reply
 
 -- the replies to one member, from the empty history on

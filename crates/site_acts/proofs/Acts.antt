@@ -32,7 +32,7 @@ use Rattle.house_rows.proofs.Next.{next_accepted, reply_accepted}
 use Rattle.house_rows.proofs.Sound.{change_rows_fit, rows_are_sound}
 use Rattle.pages_laws.specs.ByTables.{page_by}
 use Rattle.settle.specs.declared.zone.Zone.{Zone}
-use Rattle.site_request.specs.declared.fault.Fault.{Fault}
+use Rattle.site_request.specs.declared.fault.RequestFault.{RequestFault}
 use Rattle.site_replies.specs.Texts.{reply_text}
 use Rattle.site_results.specs.ByTables.{IsResultBy}
 use Rattle.site_acts.specs.Acted.{IfRead, IsActed, IsMade, MessageRowsFit, TellsResult}
@@ -45,7 +45,7 @@ held_is_sound : (t : Tables) (settings : Settings) (h : History) → IsHistory s
 held_is_sound t settings h is e = rw e (rows_are_sound settings h is)
 
 -- what a read is told is its page
-page_told : (message : Message Fault) (result : Result (Unit {0}) KeepFault) (zone : Zone)
+page_told : (message : Message RequestFault) (result : Result (Unit {0}) KeepFault) (zone : Zone)
     (closes : Bool) (t : Tables) (before after : List ℕ)
     → OnOk result (TellsUnchanged zone closes message t before after)
     → IfRead message (λ caller query. OnOk result (after ≡ before
@@ -57,7 +57,7 @@ page_told (Broken caller fault) result zone closes t before after told = tt
 -- a message that only read, and leaves the history
 pub acted_by_reading : {K : Type 0} (content : K → Tables) (is_failed : K → Bool)
     (is_honest : K → Type 0) (may_leave : K → Tables → Type 0)
-    (zone : Zone) (closes : Bool) (message : Message Fault) (result : Result (Unit {0}) KeepFault)
+    (zone : Zone) (closes : Bool) (message : Message RequestFault) (result : Result (Unit {0}) KeepFault)
     (before after : List ℕ) (old new : K)
     → is_asking message ≡ true
     → (is_honest new → (settings : Settings)
@@ -65,7 +65,7 @@ pub acted_by_reading : {K : Type 0} (content : K → Tables) (is_failed : K → 
     → OnOk result ((after ≡ before
     ++ reply_text zone closes (reply settings h message))
     × (next settings h message ≡ h) × (is_entered settings h message ≡ false)))
-    → OnOk result ((r : Reply Fault)
+    → OnOk result ((r : Reply RequestFault)
     × (after ≡ before ++ reply_text zone closes r))
     → (is_honest new → OnOk result
     (TellsUnchanged zone closes message (content old) before after))
@@ -150,11 +150,11 @@ leads_on : (settings : Settings) (h : History) (moment caller : ℕ) (command : 
     (change : Change) (t : Tables) → t ≡ tables_of settings h
     → IsAccepted settings h moment caller command change
     → changed t change ≡ tables_of settings
-    (next {F = Fault} settings h (Write moment caller command))
+    (next {F = RequestFault} settings h (Write moment caller command))
 leads_on settings h moment caller command change t e is =
     ap (λ (x : Tables). changed x change) e ∙ is.leads
     ∙ ap (tables_of settings)
-    (sym (next_accepted Fault settings h moment caller command is.accepted))
+    (sym (next_accepted RequestFault settings h moment caller command is.accepted))
 
 -- the change of a ready command fits sound tables
 sound_change : {K : Type 0} (content : K → Tables) (is_failed : K → Bool)
@@ -186,7 +186,7 @@ own_change content is_failed is_honest may_leave moment caller command change ol
 
 -- what reports an accepted command is the text of a reply
 some_reply : (zone : Zone) (closes : Bool) (before after : List ℕ) → TellsDone zone closes before after
-    → (r : Reply Fault) × (after ≡ before ++ reply_text zone closes r)
+    → (r : Reply RequestFault) × (after ≡ before ++ reply_text zone closes r)
 some_reply zone closes before after (report, e) = (Done report, e)
 
 -- an accepted command
@@ -210,7 +210,7 @@ acted_by_change content is_failed is_honest may_leave zone closes moment caller 
           let accepted = ready.accepted b settings h is e in
           value honest settings h is (ready.same b ∙ e) moment caller command accepted
           (ready.own b)
-          ∙ ap (λ (r : Reply Fault). before ++ reply_text zone closes r)
+          ∙ ap (λ (r : Reply RequestFault). before ++ reply_text zone closes r)
           (sym (reply_accepted settings h moment caller command accepted.accepted));
       tables = λ honest settings h is e.
           let b = applied.honest honest in
@@ -324,7 +324,7 @@ acted_by_change content is_failed is_honest may_leave zone closes moment caller 
 -- a message that asks for nothing
 pub acted_by_nothing : {K : Type 0} (content : K → Tables) (is_failed : K → Bool)
     (is_honest : K → Type 0) (may_leave : K → Tables → Type 0)
-    (zone : Zone) (closes : Bool) (caller : Option ℕ) (fault : Fault)
+    (zone : Zone) (closes : Bool) (caller : Option ℕ) (fault : RequestFault)
     (result : Result (Unit {0}) KeepFault) (before after : List ℕ) (k : K)
     → OnOk result (after ≡ before ++ reply_text zone closes (Faulty fault))
     → OnErr result (after ≡ before) → IfErr result (λ f. f ≡ Memory)
@@ -376,9 +376,9 @@ acted_by_nothing content is_failed is_honest may_leave zone closes caller fault 
 
 -- the text of one reply is that of some reply
 pub some_text : (result : Result (Unit {0}) KeepFault) (zone : Zone) (closes : Bool)
-    (r : Reply Fault) (before after : List ℕ)
+    (r : Reply RequestFault) (before after : List ℕ)
     → OnOk result (after ≡ before ++ reply_text zone closes r)
-    → OnOk result ((r : Reply Fault)
+    → OnOk result ((r : Reply RequestFault)
     × (after ≡ before ++ reply_text zone closes r))
 some_text (Ok u) zone closes r before after e = (r, e)
 some_text (Err f) zone closes r before after e = tt

@@ -21,7 +21,7 @@ use Rattle.house_rows.specs.Taken.{IsUndamaged}
 use Rattle.house_rows.specs.Verdict.{verdict}
 use Rattle.house_rows.proofs.Next.{next_refused, reply_refused}
 use Rattle.settle.specs.declared.zone.Zone.{Zone}
-use Rattle.site_request.specs.declared.fault.Fault.{Fault}
+use Rattle.site_request.specs.declared.fault.RequestFault.{RequestFault}
 use Rattle.site_replies.specs.Texts.{reply_text}
 use Rattle.site_acts.specs.Acted.{is_entered}
 
@@ -81,13 +81,13 @@ pub refused_reads : (result : Result (Unit {0}) KeepFault) (zone : Zone) (closes
     → OnOk result (after ≡ before ++ reply_text zone closes (Denied refusal))
     → OnOk result ((after ≡ before
     ++ reply_text zone closes (reply settings h (Write moment caller command)))
-    × (next {F = Fault} settings h (Write moment caller command) ≡ h)
+    × (next {F = RequestFault} settings h (Write moment caller command) ≡ h)
     × (is_entered settings h (Write moment caller command) ≡ false))
 refused_reads (Ok u) zone closes settings h moment caller command refusal before after refused
     text = (
-      text ∙ ap (λ (r : Reply Fault). before ++ reply_text zone closes r)
+      text ∙ ap (λ (r : Reply RequestFault). before ++ reply_text zone closes r)
           (sym (reply_refused settings h moment caller command refusal refused)),
-      next_refused Fault settings h moment caller command refusal refused,
+      next_refused RequestFault settings h moment caller command refusal refused,
       rw refused refl,
     )
 refused_reads (Err f) zone closes settings h moment caller command refusal before after refused
@@ -101,7 +101,7 @@ pub shown_reads : (result : Result (Unit {0}) KeepFault) (zone : Zone) (closes :
     → OnOk result (after ≡ before ++ reply_text zone closes (Shows page))
     → OnOk result ((after ≡ before
     ++ reply_text zone closes (reply settings h (Read caller query)))
-    × (next {F = Fault} settings h (Read caller query) ≡ h)
+    × (next {F = RequestFault} settings h (Read caller query) ≡ h)
     × (is_entered settings h (Read caller query) ≡ false))
 unfolding next reply
 shown_reads (Ok u) zone closes settings h caller query page before after is text =

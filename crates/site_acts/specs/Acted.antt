@@ -24,36 +24,36 @@ use Rattle.house_rows.specs.Verdict.{IsHistory, verdict}
 use Rattle.pages.specs.Taken.{PageRowsFit}
 use Rattle.pages_laws.specs.ByTables.{page_by}
 use Rattle.settle.specs.declared.zone.Zone.{Zone}
-use Rattle.site_request.specs.declared.fault.Fault.{Fault}
+use Rattle.site_request.specs.declared.fault.RequestFault.{RequestFault}
 use Rattle.site_replies.specs.Texts.{reply_text}
 use Rattle.site_results.specs.ByTables.{IsResultBy}
 
 -- whether a message asks the keep for anything
-abbrev pub is_asking : Message Fault → Bool
+abbrev pub is_asking : Message RequestFault → Bool
 is_asking (Write moment caller command) = true
 is_asking (Read caller query) = true
 is_asking (Broken caller fault) = false
 
 -- whether it is a command that is accepted
-abbrev pub is_entered : Settings → History → Message Fault → Bool
+abbrev pub is_entered : Settings → History → Message RequestFault → Bool
 is_entered settings h (Write moment caller command) =
     is_none (verdict settings h moment caller command)
 is_entered settings h (Read caller query) = false
 is_entered settings h (Broken caller fault) = false
 
 -- the change is the message's own, and fits where the tables are sound; only a command has one
-abbrev pub IsOwn : Message Fault → Tables → Change → Type 0
+abbrev pub IsOwn : Message RequestFault → Tables → Change → Type 0
 IsOwn (Write moment caller command) t change =
     IsOf moment caller command change × (AreSound t → ChangeFits t change)
 IsOwn (Read caller query) t change = ⊥
 IsOwn (Broken caller fault) t change = ⊥
 
 -- the tables are those after the message's own change
-abbrev pub IsMade : Message Fault → Tables → Tables → Type 0
+abbrev pub IsMade : Message RequestFault → Tables → Tables → Type 0
 IsMade message t now = (change : Change) × IsOwn message t change × (now ≡ changed t change)
 
 -- a command whose own change fits, but whose new key is taken: in tables that belong to no history
-abbrev pub IsTaken : Tables → Message Fault → Type 0
+abbrev pub IsTaken : Tables → Message RequestFault → Type 0
 IsTaken t (Write moment caller command) =
     (change : Change) × IsOf moment caller command change × ChangeFits t change
     × ¬ (IsFree t change)
@@ -62,14 +62,14 @@ IsTaken t (Broken caller fault) = ⊥
 
 -- the rows that a message takes fit: those that deciding on a command takes and those that making
 -- its own change does, and those that the page of a read takes
-abbrev pub MessageRowsFit : Tables → Message Fault → Type 0
+abbrev pub MessageRowsFit : Tables → Message RequestFault → Type 0
 MessageRowsFit t (Write moment caller command) = CommandRowsFit t caller command
     × ((change : Change) → IsOf moment caller command change → ChangeRowsFit t change)
 MessageRowsFit t (Read caller query) = PageRowsFit t caller query
 MessageRowsFit t (Broken caller fault) = Unit {0}
 
 -- of a read, what is said of its caller and its query
-abbrev pub IfRead : Message Fault → (ℕ → Query → Type 0) → Type 0
+abbrev pub IfRead : Message RequestFault → (ℕ → Query → Type 0) → Type 0
 IfRead (Write moment caller command) P = Unit {0}
 IfRead (Read caller query) P = P caller query
 IfRead (Broken caller fault) P = Unit {0}
@@ -82,7 +82,7 @@ TellsResult zone closes t change before after =
 
 -- what is appended for a message that changes nothing: a command is refused, a read is shown the
 -- page of the tables, and any other message is told its fault
-abbrev pub TellsUnchanged : Zone → Bool → Message Fault → Tables → List ℕ → List ℕ → Type 0
+abbrev pub TellsUnchanged : Zone → Bool → Message RequestFault → Tables → List ℕ → List ℕ → Type 0
 TellsUnchanged zone closes (Write moment caller command) t before after =
     (refusal : Refusal) × (after ≡ before ++ reply_text zone closes (Denied refusal))
 TellsUnchanged zone closes (Read caller query) t before after =
@@ -92,8 +92,8 @@ TellsUnchanged zone closes (Broken caller fault) t before after =
 
 -- a message has made its own change and is told the result of that, or it has changed nothing and is
 -- answered otherwise
-abbrev pub IsOwnChangeOrNone : Zone → Bool → Message Fault → Tables → Tables → List ℕ → List ℕ
-    → Type 0
+abbrev pub IsOwnChangeOrNone : Zone → Bool → Message RequestFault → Tables → Tables → List ℕ
+    → List ℕ → Type 0
 IsOwnChangeOrNone zone closes message t now before after =
     ((now ≡ t) × TellsUnchanged zone closes message t before after)
     ⊎ ((change : Change) × IsOwn message t change × (now ≡ changed t change)
@@ -103,8 +103,8 @@ IsOwnChangeOrNone zone closes message t now before after =
 -- `before` and `after` the bytes
 pub record IsActed {K : Type 0} (content : K → Tables) (is_failed : K → Bool)
     (is_honest : K → Type 0) (may_leave : K → Tables → Type 0)
-    (zone : Zone) (closes : Bool) (message : Message Fault) (result : Result (Unit {0}) KeepFault)
-    (before after : List ℕ) (old new : K) : Type 0 where
+    (zone : Zone) (closes : Bool) (message : Message RequestFault)
+    (result : Result (Unit {0}) KeepFault) (before after : List ℕ) (old new : K) : Type 0 where
   -- over every history whose tables the keep has: the reply of the definition, and the tables of
   -- the next history
   pub report : is_honest new → (settings : Settings) (h : History) → IsHistory settings h
@@ -115,7 +115,7 @@ pub record IsActed {K : Type 0} (content : K → Tables) (is_failed : K → Bool
       → content old ≡ tables_of settings h
       → OnOk result (content new ≡ tables_of settings (next settings h message))
   -- over any tables what is appended is the text of a reply
-  pub text : OnOk result ((r : Reply Fault)
+  pub text : OnOk result ((r : Reply RequestFault)
       × (after ≡ before ++ reply_text zone closes r))
   -- and that of a read shows the page of the kept tables
   pub shown : is_honest new → IfRead message (λ caller query. OnOk result (after ≡ before

@@ -8,7 +8,7 @@ use Rattle.site.specs.Runs.{is_from}
 use Rattle.site_request.specs.Asked.{IsAsked, asked_of, caller_of}
 use Rattle.site_request.specs.Heads.{caller_in}
 use Rattle.site_request.specs.declared.asked.Asked.{Asked}
-use Rattle.site_request.specs.declared.fault.Fault.{Fault}
+use Rattle.site_request.specs.declared.fault.RequestFault.{RequestFault}
 use Rattle.site_request.proofs.CallerLemmas.{message_is_of}
 use Rattle.wire.specs.Frame.{IsFrame}
 use Rattle.wire.specs.Message.{Message as Framed}
@@ -38,7 +38,7 @@ broken_is_of text f is asked (frame, also, same) =
     sym (ap (λ (a : Asked). caller_of a.message)
     (same ∙ ap asked_of (one_frame text frame (Err f) also is)) ∙ of_broken f)
 
-message_of_caller : (c : ℕ) (m : Message Fault) → is_caller (caller_of m) c ≡ is_of c m
+message_of_caller : (c : ℕ) (m : Message RequestFault) → is_caller (caller_of m) c ≡ is_of c m
 message_of_caller c (Write moment caller command) = refl
 message_of_caller c (Read caller query) = refl
 message_of_caller c (Broken caller f) = refl

@@ -17,7 +17,7 @@ use Rattle.site.specs.Runs.{meant, rendered}
 use Rattle.house_laws.specs.Alike.{AreAlike}
 use Rattle.house_laws.proofs.Alike as laws
 use Rattle.site_request.specs.declared.asked.Asked.{Asked}
-use Rattle.site_request.specs.declared.fault.Fault.{Fault}
+use Rattle.site_request.specs.declared.fault.RequestFault.{RequestFault}
 use Rattle.site_audit.specs.declared.fault.AuditFault.{AuditFault}
 use Rattle.site_audit.specs.declared.fault.AuditFault.TheVariants.{Memory, Store, NotNew}
 use Rattle.site_audit.specs.declared.verdict.Verdict.{Verdict}
@@ -96,7 +96,7 @@ unfolding reply_to
 heard_replies_more settings zone c h heards x =
     ap (replies_to_from settings zone c h) (asked_more heards x)
     ∙ replies_more meant (rendered zone) settings c h (what_is_asked heards) x.asked
-    ∙ ap (λ (ms : List (Message Fault)). replies_to_from settings zone c h (what_is_asked heards)
+    ∙ ap (λ (ms : List (Message RequestFault)). replies_to_from settings zone c h (what_is_asked heards)
     ++ reply_at settings zone c (history_from settings h ms) x.asked) (asked_means heards)
 
 -- one more place that goes on

@@ -11,7 +11,7 @@ use Rattle.site.specs.Runs.{is_from}
 use Rattle.site.specs.declared.engine.Site.{Site}
 use Rattle.site_request.specs.Asked.{IsAsked}
 use Rattle.site_request.specs.declared.asked.Asked.{Asked}
-use Rattle.site_request.specs.declared.fault.Fault.{Fault}
+use Rattle.site_request.specs.declared.fault.RequestFault.{RequestFault}
 use Rattle.site_audit.specs.declared.fault.AuditFault.{AuditFault}
 use Rattle.site_audit.specs.declared.fault.AuditFault.TheVariants.{Memory, Store, NotNew}
 use Rattle.site_replies.specs.Texts.{IsServed, is_failure, is_refusal_of_memory}
@@ -39,7 +39,7 @@ pub record IsHeard (text : List ℕ) (heard : Heard) : Type 0 where
   pub asks : IsAsked text heard.asked
 
 -- what it means
-abbrev pub heard_message : Heard → Message Fault
+abbrev pub heard_message : Heard → Message RequestFault
 heard_message heard = heard.asked.message
 
 -- two texts are equal, byte for byte, or neither is the caller's

@@ -12,7 +12,7 @@ use crate::fault::AuditFault;
 use house_rows::{Command, Message};
 use json::Scratch;
 use settle::LAST_MOMENT;
-use site_request::{Fault, Routes, read};
+use site_request::{RequestFault, Routes, read};
 use std::alloc::{AllocError, Global};
 use std::marker::Model;
 
@@ -40,7 +40,7 @@ impl Model for SealedBid {
 }
 
 // The bid of a message, if it is one.
-fn bid_in(message: &Message<Fault>) -> Option<SealedBid>
+fn bid_in(message: &Message<RequestFault>) -> Option<SealedBid>
     ensures { result ≡ sealed_in message.now }
 {
     match message {

@@ -14,8 +14,8 @@ use Rattle.house_rows.specs.declared.command_result.CommandResult.TheVariants as
 use Rattle.house_rows.specs.Names.{refusal_status}
 use Rattle.settle.specs.declared.zone.Zone.{Zone}
 use Rattle.site_request.specs.Faults.{status_of}
-use Rattle.site_request.specs.declared.fault.Fault.{Fault}
-use Rattle.site_request.specs.declared.fault.Fault.TheVariants as fault
+use Rattle.site_request.specs.declared.fault.RequestFault.{RequestFault}
+use Rattle.site_request.specs.declared.fault.RequestFault.TheVariants as fault
 use Rattle.site_replies.specs.Texts.{IsServed, digits_in, fault_text, is_failure, is_refusal_of_memory, page_status, reply_status, reply_text, result_status}
 use Rattle.status.specs.declared.Status.{Status}
 use Rattle.status.specs.declared.Status.TheVariants.{Success, Created, BadRequest, Forbidden, NotFound, MethodNotAllowed, Conflict, ContentTooLarge, InternalServerError, NotImplemented, ServiceUnavailable}
@@ -98,7 +98,7 @@ frames wire.Size = (refl, refl)
 frames wire.End = (refl, refl)
 frames wire.Excess = (refl, refl)
 
-faults : (f : Fault) → Serves (status_of f)
+faults : (f : RequestFault) → Serves (status_of f)
 faults (fault.Frame f) = frames f
 faults fault.Path = (refl, refl)
 faults (fault.Method methods) = (refl, refl)
@@ -137,14 +137,14 @@ pages (page.Bids rows) = (refl, refl)
 pages (page.Reserves rows) = (refl, refl)
 pages (page.Statement member from to rate sales) = (refl, refl)
 
-replies : (r : Reply Fault) → Serves (reply_status r)
+replies : (r : Reply RequestFault) → Serves (reply_status r)
 replies (Done t) = reports t
 replies (Denied r) = refusals r
 replies (Shows p) = pages p
 replies (Faulty f) = faults f
 
 -- no reply has the status 500 or 503
-pub reply_served : (zone : Zone) (closes : Bool) (r : Reply Fault)
+pub reply_served : (zone : Zone) (closes : Bool) (r : Reply RequestFault)
     → IsServed (reply_text zone closes r)
 unfolding reply_text
 reply_served zone closes r = by_status (reply_status r) _ closes _ (replies r)

@@ -15,7 +15,7 @@ use Rattle.pages_text.specs.Fits.{PageFits}
 use Rattle.pages_text.specs.Trees.{page_tree, refusal_tree, result_tree}
 use Rattle.settle.specs.declared.zone.Zone.{Zone}
 use Rattle.site_request.specs.Faults.{allow_of, body_of, status_of}
-use Rattle.site_request.specs.declared.fault.Fault.{Fault}
+use Rattle.site_request.specs.declared.fault.RequestFault.{RequestFault}
 use Rattle.site_replies.specs.declared.reply_ref.ReplyRef.{ReplyRef}
 use Rattle.site_replies.specs.declared.reply_ref.ReplyRef.TheVariants as ref
 use Rattle.status.specs.declared.Status.{Status}
@@ -24,7 +24,7 @@ use Rattle.wire.specs.Response.{error_body, response_bytes}
 use Rattle.wire.specs.declared.methods.Methods.{Methods}
 
 -- what a reply that is to be written says
-abbrev pub reply_of : ReplyRef → Reply Fault
+abbrev pub reply_of : ReplyRef → Reply RequestFault
 reply_of (ref.Done report) = Done report.now
 reply_of (ref.Denied refusal) = Denied refusal
 reply_of (ref.Shows page) = Shows page.now
@@ -41,31 +41,31 @@ abbrev pub page_status : Page → Status
 page_status (Refused refusal) = refusal_status refusal
 page_status _ = Success
 
-abbrev pub reply_status : Reply Fault → Status
+abbrev pub reply_status : Reply RequestFault → Status
 reply_status (Done report) = result_status report
 reply_status (Denied refusal) = refusal_status refusal
 reply_status (Shows page) = page_status page
 reply_status (Faulty fault) = status_of fault
 
 -- the methods that a reply allows
-abbrev pub reply_allow : Reply Fault → Option Methods
+abbrev pub reply_allow : Reply RequestFault → Option Methods
 reply_allow (Faulty fault) = allow_of fault
 reply_allow _ = None
 
 -- the body: days are those of the zone
-abbrev pub reply_body : Zone → Reply Fault → List ℕ
+abbrev pub reply_body : Zone → Reply RequestFault → List ℕ
 reply_body zone (Done report) = text_of (result_tree report)
 reply_body zone (Denied refusal) = text_of (refusal_tree refusal)
 reply_body zone (Shows page) = text_of (page_tree zone page)
 reply_body zone (Faulty fault) = body_of fault
 
 -- the one text of a reply; the connection ends after it or not
-unfoldable pub reply_text : Zone → Bool → Reply Fault → List ℕ
+unfoldable pub reply_text : Zone → Bool → Reply RequestFault → List ℕ
 reply_text zone closes reply =
     response_bytes (reply_status reply) (reply_allow reply) closes (reply_body zone reply)
 
 -- a reply that can be written: its page can
-abbrev pub ReplyFits : Reply Fault → Type 0
+abbrev pub ReplyFits : Reply RequestFault → Type 0
 ReplyFits (Shows page) = PageFits page
 ReplyFits _ = Unit {0}
 

@@ -1,6 +1,6 @@
 //! Replies as they are written.
 use house_rows::{CommandResult, Page, Refusal};
-use site_request::Fault;
+use site_request::RequestFault;
 
 /// A reply that is to be written. It borrows its page, so that who has a reply written drops no page
 /// on each of its ways out.
@@ -13,5 +13,5 @@ pub enum ReplyRef<'r> {
     /// The read shows this.
     Shows(&'r Page),
     /// The message is neither a command nor a read.
-    Faulty(Fault),
+    Faulty(RequestFault),
 }

@@ -15,20 +15,20 @@ use Rattle.site_request.specs.Asked.{asks_of, called, caller_of, commanded, mess
 use Rattle.site_request.specs.Days.{period_of}
 use Rattle.site_request.specs.Faults.{or_fault}
 use Rattle.site_request.specs.Heads.{caller_in, moment_in}
-use Rattle.site_request.specs.declared.fault.Fault.{Fault}
-use Rattle.site_request.specs.declared.fault.Fault.TheVariants as fault
+use Rattle.site_request.specs.declared.fault.RequestFault.{RequestFault}
+use Rattle.site_request.specs.declared.fault.RequestFault.TheVariants as fault
 
 -- what is asked is that caller's
-abbrev IsOf : Option ℕ → Result (Message Fault) Fault → Type 0
+abbrev IsOf : Option ℕ → Result (Message RequestFault) RequestFault → Type 0
 IsOf caller asked = IfOk asked (λ message. caller_of message ≡ caller)
 
-order_is_of : (caller : ℕ) (moment : Result ℕ Fault) (command : Result Command Fault)
+order_is_of : (caller : ℕ) (moment : Result ℕ RequestFault) (command : Result Command RequestFault)
     → IsOf (Some caller) (moment >>= (λ t. command >>= (λ k. Ok (Write t caller k))))
 order_is_of caller (Ok t) (Ok k) = refl
 order_is_of caller (Ok t) (Err f) = tt
 order_is_of caller (Err f) command = tt
 
-read_is_of : (caller : ℕ) (query : Result Query Fault) → IsOf (Some caller) (query >>= (λ q. Ok (Read caller q)))
+read_is_of : (caller : ℕ) (query : Result Query RequestFault) → IsOf (Some caller) (query >>= (λ q. Ok (Read caller q)))
 read_is_of caller (Ok q) = refl
 read_is_of caller (Err f) = tt
 
@@ -39,13 +39,13 @@ called_is_of caller (route.Post path) m =
 called_is_of caller (route.Read query) m = refl
 called_is_of caller (route.Statement from to) m = read_is_of caller (period_of from to)
 
-asked_is_of : (caller : Option ℕ) (found : Result Route Fault) (m : Framed)
+asked_is_of : (caller : Option ℕ) (found : Result Route RequestFault) (m : Framed)
     → IsOf caller (found >>= (λ r. or_fault fault.Member caller >>= (λ c. called c r m)))
 asked_is_of None (Ok r) m = tt
 asked_is_of (Some c) (Ok r) m = called_is_of c r m
 asked_is_of caller (Err f) m = tt
 
-by_asked : (caller : Option ℕ) (asked : Result (Message Fault) Fault) → IsOf caller asked
+by_asked : (caller : Option ℕ) (asked : Result (Message RequestFault) RequestFault) → IsOf caller asked
     → caller_of (or_broken caller asked) ≡ caller
 by_asked caller (Ok message) is = is
 by_asked caller (Err f) is = refl

@@ -21,34 +21,34 @@ use Rattle.site_request.specs.Days.{period_of}
 use Rattle.site_request.specs.Faults.{is_of_body, or_fault}
 use Rattle.site_request.specs.Heads.{caller_in, moment_in}
 use Rattle.site_request.specs.declared.asked.Asked.{Asked}
-use Rattle.site_request.specs.declared.fault.Fault.{Fault}
-use Rattle.site_request.specs.declared.fault.Fault.TheVariants as fault
+use Rattle.site_request.specs.declared.fault.RequestFault.{RequestFault}
+use Rattle.site_request.specs.declared.fault.RequestFault.TheVariants as fault
 
 -- a text as one message, or the first fault of its frame
 abbrev pub Frame : Type 0
 Frame = Result Framed WireFault
 
 -- the fault of a message that has no route
-abbrev pub routed : Result Route RouteFault → Result Route Fault
+abbrev pub routed : Result Route RouteFault → Result Route RequestFault
 routed (Ok r) = Ok r
 routed (Err unrouted.Path) = Err fault.Path
 routed (Err (unrouted.Method methods)) = Err (fault.Method methods)
 
 -- the fault of a body that is wrong
-abbrev pub commanded : Result Command Wrong → Result Command Fault
+abbrev pub commanded : Result Command Wrong → Result Command RequestFault
 commanded (Ok command) = Ok command
 commanded (Err wrong.NoObject) = Err fault.Json
 commanded (Err (wrong.Field f)) = Err (fault.Field f)
 
 -- a command: its moment is judged, then its body
-unfoldable pub ordered : ℕ → CommandPath → Framed → Result (Message Fault) Fault
+unfoldable pub ordered : ℕ → CommandPath → Framed → Result (Message RequestFault) RequestFault
 ordered caller path m = do
   moment ← or_fault fault.Moment (moment_in m)
   command ← commanded (command_of path m.body)
   Ok (Write moment caller command)
 
 -- what a caller asks by a route
-unfoldable pub called : ℕ → Route → Framed → Result (Message Fault) Fault
+unfoldable pub called : ℕ → Route → Framed → Result (Message RequestFault) RequestFault
 called caller (route.Post path) m = ordered caller path m
 called caller (route.Read query) m = Ok (Read caller query)
 called caller (route.Statement from to) m = do
@@ -56,29 +56,29 @@ called caller (route.Statement from to) m = do
   Ok (Read caller query)
 
 -- what a message of that caller, or of none, asks: its path and method are judged, then the caller, then the rest
-unfoldable pub asks_of : Option ℕ → Framed → Result (Message Fault) Fault
+unfoldable pub asks_of : Option ℕ → Framed → Result (Message RequestFault) RequestFault
 asks_of caller m = do
   r ← routed (route_of m.method m.target)
   c ← or_fault fault.Member caller
   called c r m
 
 -- a message that asks for nothing is still its caller's
-abbrev pub or_broken : Option ℕ → Result (Message Fault) Fault → Message Fault
+abbrev pub or_broken : Option ℕ → Result (Message RequestFault) RequestFault → Message RequestFault
 or_broken caller (Ok message) = message
 or_broken caller (Err f) = Broken caller f
 
 -- whether a message may ask for something, as far as can be said without its body
-abbrev pub may_ask : Message Fault → Bool
+abbrev pub may_ask : Message RequestFault → Bool
 may_ask (Write moment caller command) = true
 may_ask (Read caller query) = true
 may_ask (Broken caller f) = is_of_body f
 
 -- the same of a message of anybody
-abbrev pub MayAsk : Result (Message Fault) Fault → Type 0
+abbrev pub MayAsk : Result (Message RequestFault) RequestFault → Type 0
 MayAsk meant = may_ask (or_broken None meant) ≡ true
 
 -- what a whole message asks
-unfoldable pub message_of : Framed → Message Fault
+unfoldable pub message_of : Framed → Message RequestFault
 message_of m = or_broken (caller_in m) (asks_of (caller_in m) m)
 
 -- what a text asks, by its frame
@@ -91,7 +91,7 @@ abbrev pub IsAsked : List ℕ → Asked → Type 0
 IsAsked text asked = (frame : Frame) × IsFrame text frame × (asked ≡ asked_of frame)
 
 -- whose a message is, if it is anybody's
-abbrev pub caller_of : Message Fault → Option ℕ
+abbrev pub caller_of : Message RequestFault → Option ℕ
 caller_of (Write moment caller command) = Some caller
 caller_of (Read caller query) = Some caller
 caller_of (Broken caller f) = caller

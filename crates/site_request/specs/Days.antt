@@ -6,8 +6,8 @@ use Rattle.house_rows.specs.declared.query.Query.TheVariants as query
 use Rattle.settle.specs.Calendar.{day_text}
 use Rattle.site_request.specs.Fields.{◌>>=◌}
 use Rattle.site_request.specs.Faults.{or_fault}
-use Rattle.site_request.specs.declared.fault.Fault.{Fault}
-use Rattle.site_request.specs.declared.fault.Fault.TheVariants as fault
+use Rattle.site_request.specs.declared.fault.RequestFault.{RequestFault}
+use Rattle.site_request.specs.declared.fault.RequestFault.TheVariants as fault
 
 -- how many days there are from 1970-01-01 to 2100-12-31
 abbrev pub days : ℕ
@@ -23,7 +23,7 @@ unfoldable pub day_in : List ℕ → Option ℕ
 day_in text = if is_utf8 text then day_among days text else None
 
 -- the read of a statement: both days are judged, then their order
-unfoldable pub period_of : List ℕ → List ℕ → Result Query Fault
+unfoldable pub period_of : List ℕ → List ℕ → Result Query RequestFault
 period_of from to = do
   first ← or_fault fault.Date (day_in from)
   last ← or_fault fault.Date (day_in to)

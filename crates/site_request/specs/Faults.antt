@@ -8,11 +8,11 @@ use Rattle.wire.specs.Response.{error_body}
 use Rattle.wire.specs.Fault as frame
 use Rattle.wire.specs.declared.fault.WireFault.{WireFault}
 use Rattle.wire.specs.declared.methods.Methods.{Methods}
-use Rattle.site_request.specs.declared.fault.Fault.{Fault}
-use Rattle.site_request.specs.declared.fault.Fault.TheVariants as fault
+use Rattle.site_request.specs.declared.fault.RequestFault.{RequestFault}
+use Rattle.site_request.specs.declared.fault.RequestFault.TheVariants as fault
 
 -- the status
-abbrev pub status_of : Fault → Status
+abbrev pub status_of : RequestFault → Status
 status_of (fault.Frame f) = frame.status_of f
 status_of fault.Path = NotFound
 status_of (fault.Method methods) = MethodNotAllowed
@@ -24,7 +24,7 @@ status_of fault.Date = BadRequest
 status_of fault.Order = BadRequest
 
 -- the methods that are allowed
-abbrev pub allow_of : Fault → Option Methods
+abbrev pub allow_of : RequestFault → Option Methods
 allow_of (fault.Method methods) = Some methods
 allow_of _ = None
 
@@ -35,7 +35,7 @@ abbrev pub field_body : Field → List ℕ
 field_body f = codes "{\"error\":\"field\",\"field\":\"" ++ name_of f ++ codes "\"}"
 
 -- the body
-abbrev pub body_of : Fault → List ℕ
+abbrev pub body_of : RequestFault → List ℕ
 body_of (fault.Frame f) = frame_body f
 body_of fault.Path = error_body (codes "path")
 body_of (fault.Method methods) = error_body (codes "method")
@@ -47,11 +47,11 @@ body_of fault.Date = error_body (codes "date")
 body_of fault.Order = error_body (codes "order")
 
 -- whether it is a fault of the body, which is judged after path, method, caller and moment
-abbrev pub is_of_body : Fault → Bool
+abbrev pub is_of_body : RequestFault → Bool
 is_of_body fault.Json = true
 is_of_body (fault.Field f) = true
 is_of_body _ = false
 
-abbrev pub or_fault : {A : Type 0} → Fault → Option A → Result A Fault
+abbrev pub or_fault : {A : Type 0} → RequestFault → Option A → Result A RequestFault
 or_fault f None = Err f
 or_fault f (Some x) = Ok x

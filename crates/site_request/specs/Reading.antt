@@ -5,7 +5,7 @@ use Rattle.wire.specs.Message.{Message}
 use Rattle.site_request.specs.Asked.{IsAsked, MayAsk, asked_of, may_ask, or_broken}
 use Rattle.site_request.specs.declared.asked.Asked.{Asked}
 use Rattle.site_request.specs.declared.asked.NoMemory.{NoMemory}
-use Rattle.site_request.specs.declared.fault.Fault.{Fault}
+use Rattle.site_request.specs.declared.fault.RequestFault.{RequestFault}
 
 -- memory was refused for the body: it is known whether the reply ends the connection, and nothing
 -- in front of the body is wrong
@@ -13,7 +13,8 @@ abbrev pub IsUnread : NoMemory → Asked → Type 0
 IsUnread refused asked = (refused.closes ≡ asked.closes) × (may_ask asked.message ≡ true)
 
 -- what a message of that caller, or of none, asks that means this, or that it is unread
-abbrev pub IsReadAs : Bool → Option ℕ → Result (Meant Fault) Fault → Result Asked NoMemory → Type 0
+abbrev pub IsReadAs : Bool → Option ℕ → Result (Meant RequestFault) RequestFault
+    → Result Asked NoMemory → Type 0
 IsReadAs closes caller meant (Ok asked) = asked ≡ record { closes = closes; message = or_broken caller meant }
 IsReadAs closes caller meant (Err refused) = (refused.closes ≡ closes) × MayAsk meant
 

@@ -1,5 +1,5 @@
 //! What a message asks, with what else its reply needs.
-use crate::fault::Fault;
+use crate::fault::RequestFault;
 use house_rows::Message;
 
 /// What a message asks, and the one thing beside it that its reply shows.
@@ -8,7 +8,7 @@ pub struct Asked {
     /// Whether the connection ends after the reply.
     pub closes: bool,
     /// What is asked.
-    pub message: Message<Fault>,
+    pub message: Message<RequestFault>,
 }
 
 /// Memory was refused while a message was read.

@@ -2,7 +2,7 @@
 ghost use Rattle.std.specs.Prelude.{◌≡◌};
 ghost use Rattle.site_request.specs.Days.{day_in, period_of};
 
-use crate::fault::Fault;
+use crate::fault::RequestFault;
 use house_rows::Query;
 use settle::Day;
 use std::str::from_utf8;
@@ -22,17 +22,17 @@ fn day(text: &[u8]) -> Option<Day>
 
 /// The read of a statement from one day to another.
 #[tactic(auto, unfolding(crate::specs::Days::period_of))]
-pub(crate) fn period(from: &[u8], to: &[u8]) -> Result<Query, Fault>
+pub(crate) fn period(from: &[u8], to: &[u8]) -> Result<Query, RequestFault>
     ensures { result ≡ period_of from.now to.now }
 {
     let Some(from) = day(from) else {
-        return Err(Fault::Date);
+        return Err(RequestFault::Date);
     };
     let Some(to) = day(to) else {
-        return Err(Fault::Date);
+        return Err(RequestFault::Date);
     };
     if to.number() < from.number() {
-        return Err(Fault::Order);
+        return Err(RequestFault::Order);
     }
     Ok(Query::MyStatement { from, to })
 }

@@ -7,7 +7,7 @@ use wire::{Methods, Response, Status, WireFault};
 
 /// Why a message asks for nothing: the first that holds, in this order.
 #[derive(Clone, Copy)]
-pub enum Fault {
+pub enum RequestFault {
     /// It is no whole message. It ends the connection, and is nobody's.
     Frame(WireFault),
     /// There is no such path.
@@ -28,15 +28,15 @@ pub enum Fault {
     Order,
 }
 
-impl Fault {
+impl RequestFault {
     /// The status of its response.
     pub fn status(self) -> Status
         ensures { result ≡ status_of self }
     {
         match self {
-            Fault::Frame(fault) => fault.status(),
-            Fault::Path => Status::NotFound,
-            Fault::Method(_) => Status::MethodNotAllowed,
+            RequestFault::Frame(fault) => fault.status(),
+            RequestFault::Path => Status::NotFound,
+            RequestFault::Method(_) => Status::MethodNotAllowed,
             _ => Status::BadRequest,
         }
     }
@@ -46,7 +46,7 @@ impl Fault {
         ensures { result ≡ allow_of self }
     {
         match self {
-            Fault::Method(methods) => Some(methods),
+            RequestFault::Method(methods) => Some(methods),
             _ => None,
         }
     }
@@ -56,15 +56,15 @@ impl Fault {
         ensures { result.now ≡ body_of self }
     {
         match self {
-            Fault::Frame(fault) => frame_body(fault),
-            Fault::Path => "{\"error\":\"path\"}",
-            Fault::Method(_) => "{\"error\":\"method\"}",
-            Fault::Member => "{\"error\":\"member\"}",
-            Fault::Moment => "{\"error\":\"moment\"}",
-            Fault::Json => "{\"error\":\"json\"}",
-            Fault::Field(field) => field_body(field),
-            Fault::Date => "{\"error\":\"date\"}",
-            Fault::Order => "{\"error\":\"order\"}",
+            RequestFault::Frame(fault) => frame_body(fault),
+            RequestFault::Path => "{\"error\":\"path\"}",
+            RequestFault::Method(_) => "{\"error\":\"method\"}",
+            RequestFault::Member => "{\"error\":\"member\"}",
+            RequestFault::Moment => "{\"error\":\"moment\"}",
+            RequestFault::Json => "{\"error\":\"json\"}",
+            RequestFault::Field(field) => field_body(field),
+            RequestFault::Date => "{\"error\":\"date\"}",
+            RequestFault::Order => "{\"error\":\"order\"}",
         }
     }
 

@@ -28,7 +28,7 @@ mod unrouted;
 pub use asked::{Asked, NoMemory};
 pub use command_path::CommandPath;
 pub use commands::command;
-pub use fault::Fault;
+pub use fault::RequestFault;
 pub use field::Field;
 pub use laws::{
     every_text_has_a_meaning, messages_are_their_callers, no_target_fits_two_patterns,

@@ -9,7 +9,7 @@ use crate::asked::{Asked, NoMemory};
 use crate::command_path::CommandPath;
 use crate::commands::command;
 use crate::days::period;
-use crate::fault::Fault;
+use crate::fault::RequestFault;
 use crate::route::Route;
 use crate::routes::Routes;
 use crate::unread::{Unread, Wrong};
@@ -22,7 +22,7 @@ use std::alloc::Global;
 use wire::{Request, whole};
 
 // What a message asks that asks for nothing.
-fn broken(closes: bool, caller: Option<u64>, fault: Fault) -> Result<Asked, NoMemory>
+fn broken(closes: bool, caller: Option<u64>, fault: RequestFault) -> Result<Asked, NoMemory>
     ensures { IsReadAs closes caller (Err fault) result }
 {
     Ok(Asked {
@@ -54,7 +54,7 @@ fn read_command(
     ensures { IsReadAs closes (Some caller) (ordered caller path request.now) result }
 {
     let Some(moment) = moment(request) else {
-        return broken(closes, Some(caller), Fault::Moment);
+        return broken(closes, Some(caller), RequestFault::Moment);
     };
     match command(alloc, path, request.body(), scratch) {
         Ok(command) => Ok(Asked {
@@ -65,9 +65,9 @@ fn read_command(
                 command,
             },
         }),
-        Err(Unread::Wrong(Wrong::NoObject)) => broken(closes, Some(caller), Fault::Json),
+        Err(Unread::Wrong(Wrong::NoObject)) => broken(closes, Some(caller), RequestFault::Json),
         Err(Unread::Wrong(Wrong::Field(field))) => {
-            broken(closes, Some(caller), Fault::Field(field))
+            broken(closes, Some(caller), RequestFault::Field(field))
         }
         Err(Unread::Memory) => Err(NoMemory { closes }),
     }
@@ -88,13 +88,13 @@ fn asks(
 {
     let route = match routes.find(request.method(), request.target()) {
         Ok(route) => route,
-        Err(RouteFault::Path) => return broken(closes, caller, Fault::Path),
+        Err(RouteFault::Path) => return broken(closes, caller, RequestFault::Path),
         Err(RouteFault::Method(methods)) => {
-            return broken(closes, caller, Fault::Method(methods));
+            return broken(closes, caller, RequestFault::Method(methods));
         }
     };
     let Some(caller) = caller else {
-        return broken(closes, None, Fault::Member);
+        return broken(closes, None, RequestFault::Member);
     };
     match route {
         Route::Post(path) => read_command(alloc, closes, caller, path, request, scratch),
@@ -135,7 +135,7 @@ pub fn read(
             closes: true,
             message: Message::Broken {
                 caller: None,
-                fault: Fault::Frame(fault),
+                fault: RequestFault::Frame(fault),
             },
         }),
     }

@@ -26,7 +26,7 @@ use Rattle.site.proofs.Left.{leaves_a_life}
 use Rattle.site.proofs.Stops.{down_after, stays_down}
 use Rattle.site_acts.specs.Acted.{is_entered}
 use Rattle.site_request.specs.declared.asked.Asked.{Asked}
-use Rattle.site_request.specs.declared.fault.Fault.{Fault}
+use Rattle.site_request.specs.declared.fault.RequestFault.{RequestFault}
 use Rattle.wire.specs.Cut.{Cut, Stop, broken, closed, limit}
 use Rattle.wire.specs.Frame.{IsFront, IsMessageAt}
 use Rattle.wire.specs.Look.{IsFaultOf}
@@ -116,16 +116,16 @@ next_is settings h m is = next_is_history settings h m.message is
 -- a message that wasn't entered leaves the history
 stays_if : (settings : Settings) (h : History) (moment caller : ℕ) (command : Command)
     (o : Option Refusal) → verdict settings h moment caller command ≡ o → is_none o ≡ false
-    → next {F = Fault} settings h (Write moment caller command) ≡ h
+    → next {F = RequestFault} settings h (Write moment caller command) ≡ h
 stays_if settings h moment caller command None e not = cc
 stays_if settings h moment caller command (Some refusal) e not =
-    next_refused Fault settings h moment caller command refusal e
+    next_refused RequestFault settings h moment caller command refusal e
 
-stays : (settings : Settings) (h : History) (m : Meant Fault) → is_entered settings h m ≡ false
+stays : (settings : Settings) (h : History) (m : Meant RequestFault) → is_entered settings h m ≡ false
     → next settings h m ≡ h
 stays settings h (Write moment caller command) not =
     stays_if settings h moment caller command (verdict settings h moment caller command) refl not
-stays settings h (Read caller query) not = next_read Fault settings h caller query
+stays settings h (Read caller query) not = next_read RequestFault settings h caller query
 stays settings h (Broken caller fault) not = next_broken settings h caller fault
 
 not_entered : (settings : Settings) (h : History) (m : Asked)

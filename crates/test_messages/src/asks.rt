@@ -7,11 +7,11 @@
 //! times, and gives the sum of the lengths; `repeat N` also reads what it asks, and adds the moment
 //! and some of the command's numbers.
 use crate::commands;
-use crate::script::Fault;
+use crate::script::MessageFault;
 use crate::words::{first_word, number, push, repeat};
 use house_rows::{Command, Message};
 use json::Scratch;
-use site_request::{Asked, Fault as Broken, Routes, read, read_request};
+use site_request::{Asked, RequestFault, Routes, read, read_request};
 use std::alloc::{AllocError, Global};
 use std::fmt::Write;
 use wire::{Request, whole};
@@ -40,7 +40,11 @@ impl Asks {
 }
 
 /// Plays a line, and gives what it asks, if it asks.
-pub(crate) fn play(alloc: Global, asks: &mut Asks, line: &str) -> Result<Option<String>, Fault> {
+pub(crate) fn play(
+    alloc: Global,
+    asks: &mut Asks,
+    line: &str,
+) -> Result<Option<String>, MessageFault> {
     let (word, rest) = first_word(line);
     match word {
         "send" => respell(&mut asks.request, rest)?,
@@ -54,13 +58,13 @@ pub(crate) fn play(alloc: Global, asks: &mut Asks, line: &str) -> Result<Option<
 }
 
 // Puts other bytes into a buffer.
-fn respell(bytes: &mut Vec<u8>, text: &str) -> Result<(), Fault> {
+fn respell(bytes: &mut Vec<u8>, text: &str) -> Result<(), MessageFault> {
     bytes.clear();
     push(bytes, text)
 }
 
 // The answer to a line that asks.
-fn answer(alloc: Global, asks: &mut Asks, word: &str, rest: &str) -> Result<String, Fault> {
+fn answer(alloc: Global, asks: &mut Asks, word: &str, rest: &str) -> Result<String, MessageFault> {
     let mut text = Vec::new(alloc);
     push_text(alloc, asks, &mut text, word, rest)?;
     answer_of(alloc, asks, &text, word, rest)
@@ -73,7 +77,7 @@ fn push_text(
     text: &mut Vec<u8>,
     word: &str,
     rest: &str,
-) -> Result<(), Fault> {
+) -> Result<(), MessageFault> {
     match word {
         "raw" => push(text, rest),
         "body" => {
@@ -109,28 +113,28 @@ fn answer_of(
     text: &[u8],
     word: &str,
     rest: &str,
-) -> Result<String, Fault> {
+) -> Result<String, MessageFault> {
     match word {
         "raw" | "body" | "asks" => ask(alloc, asks, text),
         "frames" => sum_text(alloc, sum_of_frames(text, number(rest)?)?),
         "repeat" => sum_text(alloc, sum_of_asks(alloc, asks, text, number(rest)?)?),
-        _ => Err(Fault::Script),
+        _ => Err(MessageFault::Script),
     }
 }
 
-fn sum_text(alloc: Global, sum: u64) -> Result<String, Fault> {
+fn sum_text(alloc: Global, sum: u64) -> Result<String, MessageFault> {
     Ok(format!(in alloc; "{sum}")?)
 }
 
 // What a text asks.
-fn ask(alloc: Global, asks: &mut Asks, text: &[u8]) -> Result<String, Fault> {
+fn ask(alloc: Global, asks: &mut Asks, text: &[u8]) -> Result<String, MessageFault> {
     match read(alloc, &asks.routes, text, &mut asks.scratch) {
         Ok(asked) => line_of(alloc, &asked),
-        Err(_) => Err(Fault::Memory),
+        Err(_) => Err(MessageFault::Memory),
     }
 }
 
-fn line_of(alloc: Global, asked: &Asked) -> Result<String, Fault> {
+fn line_of(alloc: Global, asked: &Asked) -> Result<String, MessageFault> {
     let mut line = String::new(alloc);
     push_asked(&mut line, asked)?;
     Ok(line)
@@ -159,7 +163,7 @@ fn push_asked(line: &mut String, asked: &Asked) -> Result<(), AllocError> {
 // Adds what is answered to a message that asks for nothing, and whose it is.
 fn push_fault(
     line: &mut String,
-    fault: Broken,
+    fault: RequestFault,
     caller: Option<u64>,
     closes: bool,
 ) -> Result<(), AllocError> {
@@ -175,7 +179,7 @@ fn push_fault(
 }
 
 // The sum of the lengths of a message whose frame is read so many times.
-fn sum_of_frames(text: &[u8], times: u32) -> Result<u64, Fault> {
+fn sum_of_frames(text: &[u8], times: u32) -> Result<u64, MessageFault> {
     let mut sum = 0u64;
     for _ in 0..times {
         sum = sum.wrapping_add(length(text)?);
@@ -183,15 +187,20 @@ fn sum_of_frames(text: &[u8], times: u32) -> Result<u64, Fault> {
     Ok(sum)
 }
 
-fn length(text: &[u8]) -> Result<u64, Fault> {
+fn length(text: &[u8]) -> Result<u64, MessageFault> {
     match whole(text) {
         Ok(request) => Ok(request.length() as u64),
-        Err(_) => Err(Fault::Script),
+        Err(_) => Err(MessageFault::Script),
     }
 }
 
 // The sum of what is seen of a message that is read so many times.
-fn sum_of_asks(alloc: Global, asks: &mut Asks, text: &[u8], times: u32) -> Result<u64, Fault> {
+fn sum_of_asks(
+    alloc: Global,
+    asks: &mut Asks,
+    text: &[u8],
+    times: u32,
+) -> Result<u64, MessageFault> {
     let mut sum = 0u64;
     for _ in 0..times {
         sum = sum.wrapping_add(seen_once(alloc, asks, text)?);
@@ -199,22 +208,26 @@ fn sum_of_asks(alloc: Global, asks: &mut Asks, text: &[u8], times: u32) -> Resul
     Ok(sum)
 }
 
-fn seen_once(alloc: Global, asks: &mut Asks, text: &[u8]) -> Result<u64, Fault> {
+fn seen_once(alloc: Global, asks: &mut Asks, text: &[u8]) -> Result<u64, MessageFault> {
     match whole(text) {
         Ok(request) => seen_of_request(alloc, asks, &request),
-        Err(_) => Err(Fault::Script),
+        Err(_) => Err(MessageFault::Script),
     }
 }
 
-fn seen_of_request(alloc: Global, asks: &mut Asks, request: &Request<'_>) -> Result<u64, Fault> {
+fn seen_of_request(
+    alloc: Global,
+    asks: &mut Asks,
+    request: &Request<'_>,
+) -> Result<u64, MessageFault> {
     match read_request(alloc, &asks.routes, request, &mut asks.scratch) {
         Ok(asked) => Ok(seen(&asked.message).wrapping_add(request.length() as u64)),
-        Err(_) => Err(Fault::Memory),
+        Err(_) => Err(MessageFault::Memory),
     }
 }
 
 // What is seen of a message.
-fn seen(message: &Message<Broken>) -> u64 {
+fn seen(message: &Message<RequestFault>) -> u64 {
     match message {
         Message::Write {
             moment,

@@ -10,7 +10,7 @@
 //! `head` of the same words what comes before the body and the length of all, and `written` the
 //! answers so far as they were written into one buffer; `fixed NAME ENDS` and `fault N` give
 //! answers that are ready. After `whole` and `feed` a text may come, which becomes the text.
-use crate::script::Fault;
+use crate::script::MessageFault;
 use crate::words::first_word;
 use crate::{messages, responses, streams, words};
 use std::alloc::{AllocError, Global};
@@ -35,7 +35,7 @@ impl Frames {
     }
 
     /// Takes another text, where one is given.
-    pub(crate) fn take(&mut self, text: &str) -> Result<(), Fault> {
+    pub(crate) fn take(&mut self, text: &str) -> Result<(), MessageFault> {
         if text.is_empty() {
             return Ok(());
         }
@@ -49,7 +49,7 @@ pub(crate) fn play(
     alloc: Global,
     frames: &mut Frames,
     line: &str,
-) -> Result<Option<String>, Fault> {
+) -> Result<Option<String>, MessageFault> {
     let (word, rest) = first_word(line);
     match word {
         "text" => {
@@ -66,7 +66,12 @@ pub(crate) fn play(
 }
 
 // What is answered to a line that asks.
-fn answer(alloc: Global, frames: &mut Frames, word: &str, rest: &str) -> Result<String, Fault> {
+fn answer(
+    alloc: Global,
+    frames: &mut Frames,
+    word: &str,
+    rest: &str,
+) -> Result<String, MessageFault> {
     match word {
         "whole" => {
             frames.take(rest)?;
@@ -89,6 +94,6 @@ fn answer(alloc: Global, frames: &mut Frames, word: &str, rest: &str) -> Result<
         "written" => Ok(words::spell(alloc, &frames.written)?),
         "fixed" => responses::fixed_text(alloc, rest),
         "fault" => responses::fault(alloc, rest),
-        _ => Err(Fault::Script),
+        _ => Err(MessageFault::Script),
     }
 }

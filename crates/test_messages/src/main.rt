@@ -19,15 +19,15 @@ mod script;
 mod streams;
 mod words;
 
-use script::{Fault, Stage};
+use script::{MessageFault, Stage};
 use std::alloc::Global;
 use std::io;
 use std::process::ExitCode;
 use transcript::echo;
 
 // Plays the script.
-fn play(rt: &(impl Input + Print), alloc: Global) -> Result<(), Fault> {
-    let script = io::read_to_string(alloc, rt.reader()).map_err(|_| Fault::Script)?;
+fn play(rt: &(impl Input + Print), alloc: Global) -> Result<(), MessageFault> {
+    let script = io::read_to_string(alloc, rt.reader()).map_err(|_| MessageFault::Script)?;
     let mut stage = Stage::Start;
     play_lines(rt, alloc, &mut stage, script.as_str())
 }
@@ -38,11 +38,11 @@ fn play_lines(
     alloc: Global,
     stage: &mut Stage,
     script: &str,
-) -> Result<(), Fault> {
+) -> Result<(), MessageFault> {
     for line in script.lines() {
-        let line = echo(rt, line).map_err(|_| Fault::Output)?;
+        let line = echo(rt, line).map_err(|_| MessageFault::Output)?;
         if let Some(answer) = script::play(alloc, stage, line)? {
-            println!(rt; "{answer}").map_err(|_| Fault::Output)?;
+            println!(rt; "{answer}").map_err(|_| MessageFault::Output)?;
         }
     }
     Ok(())

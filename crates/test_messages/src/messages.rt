@@ -1,6 +1,6 @@
 //! Texts as one message.
 use crate::runs::Runs;
-use crate::script::Fault;
+use crate::script::MessageFault;
 use crate::words::spell;
 use std::alloc::{AllocError, Global};
 use wire::Request;
@@ -25,15 +25,15 @@ pub(crate) fn message(alloc: Global, request: &Request<'_>) -> Result<String, Al
 }
 
 // The message that the text has to be.
-fn read(text: &[u8]) -> Result<Request<'_>, Fault> {
+fn read(text: &[u8]) -> Result<Request<'_>, MessageFault> {
     match wire::whole(text) {
         Ok(request) => Ok(request),
-        Err(_) => Err(Fault::Script),
+        Err(_) => Err(MessageFault::Script),
     }
 }
 
 /// The value of a field of the message, or `-` where there isn't exactly one.
-pub(crate) fn one(alloc: Global, text: &[u8], name: &[u8]) -> Result<String, Fault> {
+pub(crate) fn one(alloc: Global, text: &[u8], name: &[u8]) -> Result<String, MessageFault> {
     let request = read(text)?;
     match request.one(name) {
         Some(value) => Ok(format!(in alloc; "[{}]", spell(alloc, value)?)?),
@@ -42,7 +42,7 @@ pub(crate) fn one(alloc: Global, text: &[u8], name: &[u8]) -> Result<String, Fau
 }
 
 /// The body of the message.
-pub(crate) fn body(alloc: Global, text: &[u8]) -> Result<String, Fault> {
+pub(crate) fn body(alloc: Global, text: &[u8]) -> Result<String, MessageFault> {
     let request = read(text)?;
     Ok(format!(in alloc; "[{}]", spell(alloc, request.body())?)?)
 }

@@ -1,6 +1,6 @@
 //! Responses, byte for byte.
 use crate::frames::Frames;
-use crate::script::Fault;
+use crate::script::MessageFault;
 use crate::words::{first_word, number, spell};
 use std::alloc::Global;
 use wire::{
@@ -8,14 +8,18 @@ use wire::{
 };
 
 /// The response of a line, which is also written after those before it.
-pub(crate) fn response(alloc: Global, frames: &mut Frames, line: &str) -> Result<String, Fault> {
+pub(crate) fn response(
+    alloc: Global,
+    frames: &mut Frames,
+    line: &str,
+) -> Result<String, MessageFault> {
     let response = parse_response(line, &frames.text)?;
     response.write_into(&mut frames.written)?;
     Ok(spell(alloc, &response.to_bytes(alloc)?)?)
 }
 
 /// What comes before the body of the response of a line, and the length of all.
-pub(crate) fn head(alloc: Global, body: &[u8], line: &str) -> Result<String, Fault> {
+pub(crate) fn head(alloc: Global, body: &[u8], line: &str) -> Result<String, MessageFault> {
     let bytes = parse_response(line, body)?.to_bytes(alloc)?;
     let length = bytes.len();
     let head = spell(alloc, &bytes[..length.saturating_sub(body.len())])?;
@@ -23,7 +27,7 @@ pub(crate) fn head(alloc: Global, body: &[u8], line: &str) -> Result<String, Fau
 }
 
 // The response that a line spells, with a body.
-fn parse_response<'b>(line: &str, body: &'b [u8]) -> Result<Response<'b>, Fault> {
+fn parse_response<'b>(line: &str, body: &'b [u8]) -> Result<Response<'b>, MessageFault> {
     let (code, line) = first_word(line);
     let (ends, methods) = first_word(line);
     Ok(Response {
@@ -34,11 +38,11 @@ fn parse_response<'b>(line: &str, body: &'b [u8]) -> Result<Response<'b>, Fault>
     })
 }
 
-fn closes(word: &str) -> Result<bool, Fault> {
+fn closes(word: &str) -> Result<bool, MessageFault> {
     match word {
         "closes" => Ok(true),
         "stays" => Ok(false),
-        _ => Err(Fault::Script),
+        _ => Err(MessageFault::Script),
     }
 }
 
@@ -58,21 +62,21 @@ const STATUSES: [Status; 11] = [
     Status::ServiceUnavailable,
 ];
 
-fn status_of(code: &str) -> Result<Status, Fault> {
+fn status_of(code: &str) -> Result<Status, MessageFault> {
     let code: u16 = number(code)?;
     let found = STATUSES.into_iter().find(|status| status.code() == code);
-    found.ok_or(Fault::Script)
+    found.ok_or(MessageFault::Script)
 }
 
 /// A response that takes no memory.
-pub(crate) fn fixed_text(alloc: Global, line: &str) -> Result<String, Fault> {
+pub(crate) fn fixed_text(alloc: Global, line: &str) -> Result<String, MessageFault> {
     let (name, ends) = first_word(line);
     let closes = closes(ends)?;
     let bytes = match name {
         "memory" => no_memory(closes),
         "store" => failed_store(closes),
         "damaged" => damaged_row(closes),
-        _ => return Err(Fault::Script),
+        _ => return Err(MessageFault::Script),
     };
     Ok(spell(alloc, bytes)?)
 }
@@ -88,10 +92,10 @@ const FAULTS: [WireFault; 7] = [
 ];
 
 /// The fault of a number: itself, its status, its word, how it is shown, and its response.
-pub(crate) fn fault(alloc: Global, word: &str) -> Result<String, Fault> {
+pub(crate) fn fault(alloc: Global, word: &str) -> Result<String, MessageFault> {
     let wanted: u32 = number(word)?;
     let found = FAULTS.into_iter().find(|fault| fault.number() == wanted);
-    let fault = found.ok_or(Fault::Script)?;
+    let fault = found.ok_or(MessageFault::Script)?;
     let (status, word) = (fault.status().code(), fault.word());
     let response = spell(alloc, broken_frame(fault))?;
     Ok(format!(in alloc; "{fault:?}, {status}, {word}, {fault}, {response}")?)

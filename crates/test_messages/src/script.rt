@@ -11,7 +11,7 @@ use thiserror::Error;
 
 /// Why a script isn't played on.
 #[derive(Clone, Copy, Debug, Error)]
-pub(crate) enum Fault {
+pub(crate) enum MessageFault {
     /// A line has no meaning, or the script isn't text.
     #[error("a line is no part of a script")]
     Script,
@@ -26,9 +26,9 @@ pub(crate) enum Fault {
     Output,
 }
 
-impl From<AllocError> for Fault {
-    fn from(_: AllocError) -> Fault {
-        Fault::Memory
+impl From<AllocError> for MessageFault {
+    fn from(_: AllocError) -> MessageFault {
+        MessageFault::Memory
     }
 }
 
@@ -47,18 +47,22 @@ pub(crate) enum Stage {
 
 impl Stage {
     // What a section begins with.
-    fn new(alloc: Global, section: &str) -> Result<Stage, Fault> {
+    fn new(alloc: Global, section: &str) -> Result<Stage, MessageFault> {
         match section {
             "frames" => Ok(Stage::Frames(Frames::new(alloc)?)),
             "routes" => Ok(Stage::Routes(Routes::new(alloc)?)),
             "asks" => Ok(Stage::Asks(Asks::new(alloc)?)),
-            _ => Err(Fault::Script),
+            _ => Err(MessageFault::Script),
         }
     }
 }
 
 /// Plays a line, and gives what is answered to it, if anything is.
-pub(crate) fn play(alloc: Global, stage: &mut Stage, line: &str) -> Result<Option<String>, Fault> {
+pub(crate) fn play(
+    alloc: Global,
+    stage: &mut Stage,
+    line: &str,
+) -> Result<Option<String>, MessageFault> {
     if line.is_empty() || line.starts_with("--") {
         return Ok(None);
     }
@@ -67,7 +71,7 @@ pub(crate) fn play(alloc: Global, stage: &mut Stage, line: &str) -> Result<Optio
         return Ok(None);
     }
     match stage {
-        Stage::Start => Err(Fault::Script),
+        Stage::Start => Err(MessageFault::Script),
         Stage::Frames(frames) => frames::play(alloc, frames, line),
         Stage::Routes(routes) => Ok(Some(routes::answer(alloc, routes, line)?)),
         Stage::Asks(asks) => asks::play(alloc, asks, line),
@@ -75,7 +79,7 @@ pub(crate) fn play(alloc: Global, stage: &mut Stage, line: &str) -> Result<Optio
 }
 
 // Begins a section.
-fn renew(alloc: Global, stage: &mut Stage, section: &str) -> Result<(), Fault> {
+fn renew(alloc: Global, stage: &mut Stage, section: &str) -> Result<(), MessageFault> {
     *stage = Stage::new(alloc, section)?;
     Ok(())
 }

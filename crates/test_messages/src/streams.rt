@@ -3,7 +3,7 @@ ghost use Rattle.std.specs.Prelude.{◌≡◌, ◌≤◌, ◌++◌, length, take
 
 use crate::messages::message;
 use crate::runs::Runs;
-use crate::script::Fault;
+use crate::script::MessageFault;
 use crate::words::number;
 use std::alloc::{AllocError, Global};
 use wire::{Inbox, Look};
@@ -85,7 +85,7 @@ fn both_looks(alloc: Global, text: &[u8]) -> Result<String, AllocError> {
 }
 
 /// The messages of the text, which comes in pieces of a size, and how it ends.
-pub(crate) fn stream(alloc: Global, text: &[u8], size: &str) -> Result<String, Fault> {
+pub(crate) fn stream(alloc: Global, text: &[u8], size: &str) -> Result<String, MessageFault> {
     let size: usize = number(size)?;
     let mut inbox = Inbox::new(alloc)?;
     let mut runs = Runs::new(alloc);
@@ -100,7 +100,7 @@ fn add_messages(
     inbox: &mut Inbox,
     text: &[u8],
     size: usize,
-) -> Result<String, Fault> {
+) -> Result<String, MessageFault> {
     let mut rest = text;
     // Each turn takes a message or, where the size isn't 0, bytes.
     for _ in 0..text.len().saturating_mul(2).saturating_add(1) {
@@ -119,5 +119,5 @@ fn add_messages(
         };
         inbox.done(length);
     }
-    Err(Fault::Stream)
+    Err(MessageFault::Stream)
 }

@@ -1,5 +1,5 @@
 //! How numbers and bytes are spelled in a script.
-use crate::script::Fault;
+use crate::script::MessageFault;
 use std::alloc::{AllocError, Global};
 use std::fmt::Write;
 use std::str::FromStr;
@@ -10,18 +10,18 @@ pub(crate) fn first_word(line: &str) -> (&str, &str) {
 }
 
 /// The number that a word spells.
-pub(crate) fn number<T: FromStr>(word: &str) -> Result<T, Fault>
+pub(crate) fn number<T: FromStr>(word: &str) -> Result<T, MessageFault>
 where
     <T as FromStr>::Err: Drop,
 {
     match word.parse() {
         Ok(number) => Ok(number),
-        Err(_) => Err(Fault::Script),
+        Err(_) => Err(MessageFault::Script),
     }
 }
 
 /// Adds the text after the first word as often as that word says.
-pub(crate) fn repeat(bytes: &mut Vec<u8>, line: &str) -> Result<(), Fault> {
+pub(crate) fn repeat(bytes: &mut Vec<u8>, line: &str) -> Result<(), MessageFault> {
     let (times, text) = first_word(line);
     let times: u32 = number(times)?;
     for _ in 0..times {
@@ -31,7 +31,7 @@ pub(crate) fn repeat(bytes: &mut Vec<u8>, line: &str) -> Result<(), Fault> {
 }
 
 /// Adds the bytes that a text spells: an ASCII character as itself, and `\r`, `\n`, `\t` and `\xff`.
-pub(crate) fn push(bytes: &mut Vec<u8>, text: &str) -> Result<(), Fault> {
+pub(crate) fn push(bytes: &mut Vec<u8>, text: &str) -> Result<(), MessageFault> {
     for (place, part) in text.split('\\').enumerate() {
         let mut plain = part.as_bytes();
         if place > 0 {
@@ -45,13 +45,13 @@ pub(crate) fn push(bytes: &mut Vec<u8>, text: &str) -> Result<(), Fault> {
 }
 
 // The byte that what follows a backslash spells, and what comes after it.
-fn unescape(part: &[u8]) -> Result<(u8, &[u8]), Fault> {
+fn unescape(part: &[u8]) -> Result<(u8, &[u8]), MessageFault> {
     match part {
         [b'r', rest @ ..] => Ok((b'\r', rest)),
         [b'n', rest @ ..] => Ok((b'\n', rest)),
         [b't', rest @ ..] => Ok((b'\t', rest)),
         [b'x', high, low, rest @ ..] => Ok((digit(*high) << 4 | digit(*low), rest)),
-        _ => Err(Fault::Script),
+        _ => Err(MessageFault::Script),
     }
 }
 

@@ -1,5 +1,5 @@
 //! What is shown as text, where the tree of the other body has the same.
-use crate::fault::Fault;
+use crate::fault::SiteFault;
 use house_rows::{Keep, Query};
 use pages::{page, show};
 use pages_json::{Grows, append};
@@ -10,11 +10,11 @@ use settle::Zone;
 use std::alloc::Global;
 
 // A text, where a tree has the same.
-fn same(alloc: Global, text: Vec<u8>, tree: &Value) -> Result<Vec<u8>, Fault> {
+fn same(alloc: Global, text: Vec<u8>, tree: &Value) -> Result<Vec<u8>, SiteFault> {
     if tree.to_vec(alloc)? == text {
         Ok(text)
     } else {
-        Err(Fault::Apart)
+        Err(SiteFault::Apart)
     }
 }
 
@@ -26,7 +26,7 @@ fn append_page<K: Keep>(
     caller: u64,
     query: &Query,
     text: &mut Vec<u8>,
-) -> Result<(), Fault> {
+) -> Result<(), SiteFault> {
     match show(alloc, keep, zone, caller, query, text)? {
         Ok(()) => Ok(()),
         Err(refusal) => Ok(append(alloc, text, &AsRefusals, &refusal)?),
@@ -40,7 +40,7 @@ fn grow_page<K: Keep>(
     zone: &Zone,
     caller: u64,
     query: &Query,
-) -> Result<Value, Fault> {
+) -> Result<Value, SiteFault> {
     match page(alloc, keep, zone, caller, query)? {
         Ok(tree) => Ok(tree),
         Err(refusal) => Ok(AsRefusals.grow(alloc, &refusal)?),
@@ -54,7 +54,7 @@ pub(crate) fn page_text<K: Keep>(
     zone: &Zone,
     caller: u64,
     query: &Query,
-) -> Result<Vec<u8>, Fault> {
+) -> Result<Vec<u8>, SiteFault> {
     let mut text = Vec::new(alloc);
     append_page(alloc, keep, zone, caller, query, &mut text)?;
     let tree = grow_page(alloc, keep, zone, caller, query)?;
@@ -62,7 +62,7 @@ pub(crate) fn page_text<K: Keep>(
 }
 
 /// The public record.
-pub(crate) fn record_text<K: Keep>(alloc: Global, keep: &mut K) -> Result<Vec<u8>, Fault> {
+pub(crate) fn record_text<K: Keep>(alloc: Global, keep: &mut K) -> Result<Vec<u8>, SiteFault> {
     let mut text = Vec::new(alloc);
     append_record(alloc, keep, &mut text)?;
     let tree = record(alloc, keep)?;

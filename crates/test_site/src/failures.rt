@@ -1,7 +1,7 @@
 //! Streams whose source or sink fails, at each of its calls in turn.
 ghost use Rattle.std.specs.Prelude.{◌<◌};
 
-use crate::fault::Fault;
+use crate::fault::SiteFault;
 use crate::server::{Left, Prefix, serve_over};
 use crate::stream_script::Stage;
 use device::{MemorySink, MemorySource, Writing};
@@ -151,7 +151,7 @@ impl Trial<'_> {
     }
 
     // A take fails once some went well: the whole messages that had come are answered.
-    fn take(&self, alloc: Global, good: u64) -> Result<Verdict, Fault>
+    fn take(&self, alloc: Global, good: u64) -> Result<Verdict, SiteFault>
         requires { good < 1000 }
     {
         let stream = &self.stage.stream;
@@ -167,7 +167,7 @@ impl Trial<'_> {
 
     // A give fails once some went well: a beginning of the replies is written, and the message that
     // the next of them is to has acted.
-    fn give(&self, alloc: Global, good: u64) -> Result<Verdict, Fault>
+    fn give(&self, alloc: Global, good: u64) -> Result<Verdict, SiteFault>
         requires { good < 1000 }
     {
         let mut source = MemorySource::new(self.stage.stream.bytes());
@@ -181,7 +181,7 @@ impl Trial<'_> {
     }
 
     // A flush fails once some went well: all messages that had come have acted.
-    fn flush(&self, alloc: Global, good: u64) -> Result<Verdict, Fault> {
+    fn flush(&self, alloc: Global, good: u64) -> Result<Verdict, SiteFault> {
         let mut source = MemorySource::new(self.stage.stream.bytes()).in_pieces(self.piece);
         let mut sink = Writing::new(Stubborn { good_flushes: good });
         let left = serve_over(alloc, &self.stage.setup, &mut source, &mut sink, u64::MAX)?;
@@ -189,7 +189,7 @@ impl Trial<'_> {
     }
 
     // What becomes of the stream where a call fails once some went well.
-    fn fail(&self, alloc: Global, calls: Calls, good: u64) -> Result<Verdict, Fault>
+    fn fail(&self, alloc: Global, calls: Calls, good: u64) -> Result<Verdict, SiteFault>
         requires { good < 1000 }
     {
         match calls {
@@ -200,7 +200,7 @@ impl Trial<'_> {
     }
 
     // How many calls fail, each in its turn, and how many of them leave what they may not.
-    fn count(&self, alloc: Global, calls: Calls) -> Result<(u64, u64), Fault> {
+    fn count(&self, alloc: Global, calls: Calls) -> Result<(u64, u64), SiteFault> {
         let mut wrong = 0u64;
         for good in 0..MOST_CALLS {
             match self.fail(alloc, calls, good)? {
@@ -209,12 +209,12 @@ impl Trial<'_> {
                 Verdict::Wrong => wrong = wrong.saturating_add(1),
             }
         }
-        Err(Fault::Script)
+        Err(SiteFault::Script)
     }
 }
 
 // Adds what the first messages of the stream leave, from none to all, and what all that comes does.
-fn add_prefixes(alloc: Global, stage: &Stage, prefixes: &mut Vec<Prefix>) -> Result<(), Fault> {
+fn add_prefixes(alloc: Global, stage: &Stage, prefixes: &mut Vec<Prefix>) -> Result<(), SiteFault> {
     for most in 0..=stage.stream.ends.len() {
         add_prefix(alloc, stage, most as u64, prefixes)?;
     }
@@ -227,11 +227,11 @@ fn add_prefix(
     stage: &Stage,
     most: u64,
     prefixes: &mut Vec<Prefix>,
-) -> Result<(), Fault> {
+) -> Result<(), SiteFault> {
     let prefix = Prefix::new(alloc, stage, most)?;
     match prefixes.push(prefix) {
         Ok(()) => Ok(()),
-        Err(_) => Err(Fault::Memory),
+        Err(_) => Err(SiteFault::Memory),
     }
 }
 
@@ -242,7 +242,7 @@ pub(crate) fn tell(
     stage: &Stage,
     calls: Calls,
     piece: usize,
-) -> Result<Option<String>, Fault> {
+) -> Result<Option<String>, SiteFault> {
     let mut prefixes = Vec::new(alloc);
     add_prefixes(alloc, stage, &mut prefixes)?;
     let trial = Trial {

@@ -7,7 +7,7 @@ use thiserror::Error;
 
 /// Why a script isn't played on.
 #[derive(Clone, Copy, Debug, Error)]
-pub(crate) enum Fault {
+pub(crate) enum SiteFault {
     /// The script isn't text, or can't be read.
     #[error("the script can't be read")]
     Unread,
@@ -31,32 +31,32 @@ pub(crate) enum Fault {
     Output,
 }
 
-impl From<AllocError> for Fault {
-    fn from(_: AllocError) -> Fault {
-        Fault::Memory
+impl From<AllocError> for SiteFault {
+    fn from(_: AllocError) -> SiteFault {
+        SiteFault::Memory
     }
 }
 
-impl From<io::Error> for Fault {
-    fn from(_: io::Error) -> Fault {
-        Fault::Output
+impl From<io::Error> for SiteFault {
+    fn from(_: io::Error) -> SiteFault {
+        SiteFault::Output
     }
 }
 
-impl From<KeepFault> for Fault {
-    fn from(fault: KeepFault) -> Fault {
+impl From<KeepFault> for SiteFault {
+    fn from(fault: KeepFault) -> SiteFault {
         match fault {
-            KeepFault::Memory => Fault::Memory,
-            KeepFault::Store | KeepFault::Damaged => Fault::Keep,
+            KeepFault::Memory => SiteFault::Memory,
+            KeepFault::Store | KeepFault::Damaged => SiteFault::Keep,
         }
     }
 }
 
-impl From<PageFault> for Fault {
-    fn from(fault: PageFault) -> Fault {
+impl From<PageFault> for SiteFault {
+    fn from(fault: PageFault) -> SiteFault {
         match fault {
             PageFault::Keep(fault) => fault.into(),
-            PageFault::Memory => Fault::Memory,
+            PageFault::Memory => SiteFault::Memory,
         }
     }
 }

@@ -24,7 +24,7 @@ mod stream;
 mod stream_script;
 mod turns;
 
-use fault::Fault;
+use fault::SiteFault;
 use std::alloc::Global;
 use std::io;
 use std::process::ExitCode;
@@ -33,16 +33,16 @@ use std::process::ExitCode;
 const SECTION: &str = "> section ";
 
 // Plays the script.
-fn play(rt: &HostRuntime, alloc: Global) -> Result<(), Fault> {
+fn play(rt: &HostRuntime, alloc: Global) -> Result<(), SiteFault> {
     match io::read_to_string(alloc, rt.reader()) {
         Ok(script) => play_sections(rt, alloc, script.as_str()),
-        Err(_) => Err(Fault::Unread),
+        Err(_) => Err(SiteFault::Unread),
     }
 }
 
 // Plays the sections of a script, which begins with the line of the first.
-fn play_sections(rt: &HostRuntime, alloc: Global, script: &str) -> Result<(), Fault> {
-    let sections = script.strip_prefix(SECTION).ok_or(Fault::Script)?;
+fn play_sections(rt: &HostRuntime, alloc: Global, script: &str) -> Result<(), SiteFault> {
+    let sections = script.strip_prefix(SECTION).ok_or(SiteFault::Script)?;
     for section in sections.split(SECTION) {
         play_section(rt, alloc, section)?;
     }
@@ -50,13 +50,13 @@ fn play_sections(rt: &HostRuntime, alloc: Global, script: &str) -> Result<(), Fa
 }
 
 // Plays a section, from its name on.
-fn play_section(rt: &HostRuntime, alloc: Global, section: &str) -> Result<(), Fault> {
+fn play_section(rt: &HostRuntime, alloc: Global, section: &str) -> Result<(), SiteFault> {
     let (name, lines) = section.split_once('\n').unwrap_or((section, ""));
     println!(rt; "{SECTION}{name}")?;
     match name {
         "pages" => page_script::play(rt, alloc, lines),
         "streams" => stream_script::play(rt, alloc, lines),
-        _ => Err(Fault::Script),
+        _ => Err(SiteFault::Script),
     }
 }
 

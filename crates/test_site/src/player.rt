@@ -1,6 +1,6 @@
 //! A house in memory, and what becomes of a message to it.
 use crate::bodies::{page_text, record_text};
-use crate::fault::Fault;
+use crate::fault::SiteFault;
 use crate::fixed_bytes::FixedBytes;
 use house::decide;
 use house_rows::{Command, Keep, Message, Rate, Settings, Text};
@@ -18,21 +18,26 @@ pub(crate) struct House {
 }
 
 /// The example bands, a fee of a tenth, and that zone.
-pub(crate) fn settings(alloc: Global, zone: &str) -> Result<Settings, Fault> {
-    let rate = Rate::new(1_000).ok_or(Fault::Script)?;
+pub(crate) fn settings(alloc: Global, zone: &str) -> Result<Settings, SiteFault> {
+    let rate = Rate::new(1_000).ok_or(SiteFault::Script)?;
     let zone = Text::copy_of(alloc, zone)?;
     let Ok(bands) = Bands::example(alloc) else {
-        return Err(Fault::Memory);
+        return Err(SiteFault::Memory);
     };
     Ok(Settings { bands, rate, zone })
 }
 
 // Makes the change of a command, which is accepted.
-fn change<K: Keep>(keep: &mut K, moment: u64, caller: u64, command: &Command) -> Result<(), Fault> {
+fn change<K: Keep>(
+    keep: &mut K,
+    moment: u64,
+    caller: u64,
+    command: &Command,
+) -> Result<(), SiteFault> {
     // The fault is matched, since a `?` on what holds a change isn't covered by the borrow check.
     match decide(keep, moment, caller, command) {
         Err(fault) => Err(fault.into()),
-        Ok(Err(_)) => Err(Fault::Script),
+        Ok(Err(_)) => Err(SiteFault::Script),
         Ok(Ok(change)) => match keep.apply(&change) {
             Ok(()) => Ok(()),
             Err(fault) => Err(fault.into()),
@@ -42,23 +47,27 @@ fn change<K: Keep>(keep: &mut K, moment: u64, caller: u64, command: &Command) ->
 
 impl House {
     /// A house without members.
-    pub(crate) fn new(alloc: Global, zone: &str) -> Result<House, Fault> {
+    pub(crate) fn new(alloc: Global, zone: &str) -> Result<House, SiteFault> {
         let keep = ListKeep::create(alloc, &FixedBytes, settings(alloc, zone)?)?;
         match Zone::read(zone) {
             Ok(zone) => Ok(House { zone, keep }),
-            Err(_) => Err(Fault::Script),
+            Err(_) => Err(SiteFault::Script),
         }
     }
 
     /// Becomes a house without members.
-    pub(crate) fn renew(&mut self, alloc: Global, zone: &str) -> Result<(), Fault> {
+    pub(crate) fn renew(&mut self, alloc: Global, zone: &str) -> Result<(), SiteFault> {
         *self = House::new(alloc, zone)?;
         Ok(())
     }
 
     /// Makes the change of what is asked, which is a command that is accepted, or shows what is to
     /// be.
-    pub(crate) fn reply(&mut self, alloc: Global, asked: &Asked) -> Result<Option<Vec<u8>>, Fault> {
+    pub(crate) fn reply(
+        &mut self,
+        alloc: Global,
+        asked: &Asked,
+    ) -> Result<Option<Vec<u8>>, SiteFault> {
         match &asked.message {
             Message::Write {
                 moment,
@@ -77,7 +86,7 @@ impl House {
     }
 
     /// The public record.
-    pub(crate) fn record(&mut self, alloc: Global) -> Result<Option<Vec<u8>>, Fault> {
+    pub(crate) fn record(&mut self, alloc: Global) -> Result<Option<Vec<u8>>, SiteFault> {
         Ok(Some(record_text(alloc, &mut self.keep)?))
     }
 }

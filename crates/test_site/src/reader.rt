@@ -1,5 +1,5 @@
 //! What reads messages.
-use crate::fault::Fault;
+use crate::fault::SiteFault;
 use json::Scratch;
 use site_request::{Asked, Routes, read};
 use std::alloc::Global;
@@ -13,7 +13,7 @@ pub(crate) struct Reader {
 
 impl Reader {
     /// One that has read nothing yet.
-    pub(crate) fn new(alloc: Global) -> Result<Reader, Fault> {
+    pub(crate) fn new(alloc: Global) -> Result<Reader, SiteFault> {
         Ok(Reader {
             routes: Routes::new(alloc)?,
             scratch: Scratch::new(alloc),
@@ -21,10 +21,10 @@ impl Reader {
     }
 
     /// What a message asks.
-    pub(crate) fn ask(&mut self, alloc: Global, text: &str) -> Result<Asked, Fault> {
+    pub(crate) fn ask(&mut self, alloc: Global, text: &str) -> Result<Asked, SiteFault> {
         match read(alloc, &self.routes, text.as_bytes(), &mut self.scratch) {
             Ok(asked) => Ok(asked),
-            Err(_) => Err(Fault::Memory),
+            Err(_) => Err(SiteFault::Memory),
         }
     }
 }

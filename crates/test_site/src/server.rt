@@ -1,5 +1,5 @@
 //! A new house in memory, and a stream served over it.
-use crate::fault::Fault;
+use crate::fault::SiteFault;
 use crate::fixed_bytes::FixedBytes;
 use crate::player::settings;
 use crate::stream::Stream;
@@ -21,11 +21,11 @@ pub(crate) struct Left {
 }
 
 /// A new house, of the zone UTC0.
-pub(crate) fn new_site(alloc: Global) -> Result<Site<ListKeep>, Fault> {
+pub(crate) fn new_site(alloc: Global) -> Result<Site<ListKeep>, SiteFault> {
     let keep = ListKeep::create(alloc, &FixedBytes, settings(alloc, "UTC0")?)?;
     match Site::new(alloc, keep) {
         Ok(site) => Ok(site),
-        Err((fault, _)) => Err(Fault::from(fault)),
+        Err((fault, _)) => Err(SiteFault::from(fault)),
     }
 }
 
@@ -34,12 +34,12 @@ pub(crate) fn begin<K: Keep + Drop>(
     alloc: Global,
     site: &mut Site<K>,
     setup: &Stream,
-) -> Result<(), Fault> {
+) -> Result<(), SiteFault> {
     let mut source = MemorySource::new(setup.bytes());
     let mut sink = MemorySink::new(alloc);
     match serve(alloc, &mut source, &mut sink, site, u64::MAX) {
         Ok(_) => Ok(()),
-        Err(_) => Err(Fault::Script),
+        Err(_) => Err(SiteFault::Script),
     }
 }
 
@@ -51,7 +51,7 @@ fn serve_after<K: Keep + Drop, R: Source, W: Sink>(
     source: &mut R,
     sink: &mut W,
     most: u64,
-) -> Result<Left, Fault> {
+) -> Result<Left, SiteFault> {
     begin(alloc, site, setup)?;
     let report = serve(alloc, source, sink, site, most);
     let record = site.record()?;
@@ -65,7 +65,7 @@ pub(crate) fn serve_over<R: Source, W: Sink>(
     source: &mut R,
     sink: &mut W,
     most: u64,
-) -> Result<Left, Fault> {
+) -> Result<Left, SiteFault> {
     let mut site = new_site(alloc)?;
     serve_after(alloc, &mut site, setup, source, sink, most)
 }
@@ -81,7 +81,7 @@ pub(crate) struct Prefix {
 
 impl Prefix {
     /// Serves at most so many messages of the stream.
-    pub(crate) fn new(alloc: Global, stage: &Stage, most: u64) -> Result<Prefix, Fault> {
+    pub(crate) fn new(alloc: Global, stage: &Stage, most: u64) -> Result<Prefix, SiteFault> {
         let mut source = MemorySource::new(stage.stream.bytes());
         let mut replies = MemorySink::new(alloc);
         let left = serve_over(alloc, &stage.setup, &mut source, &mut replies, most)?;

@@ -1,5 +1,5 @@
 //! A stream that is served over a connection, of which the program has both ends.
-use crate::fault::Fault;
+use crate::fault::SiteFault;
 use crate::server::{Left, serve_over};
 use crate::stream_script::Stage;
 use device::{Reading, Writing};
@@ -25,7 +25,7 @@ fn send(asking: &TcpStream, bytes: &[u8]) -> io::Result<()> {
 }
 
 // Serves the stream that came, up to its end, and then ends the replies.
-fn reply(alloc: Global, stage: &Stage, answering: &TcpStream) -> Result<(), Fault> {
+fn reply(alloc: Global, stage: &Stage, answering: &TcpStream) -> Result<(), SiteFault> {
     let mut source = Reading::new(answering);
     let mut sink = Writing::new(answering);
     let left = serve_over(alloc, &stage.setup, &mut source, &mut sink, u64::MAX)?;
@@ -33,8 +33,8 @@ fn reply(alloc: Global, stage: &Stage, answering: &TcpStream) -> Result<(), Faul
     match report {
         Ok(_) => answering
             .shutdown(Shutdown::Write)
-            .map_err(|_| Fault::Socket),
-        Err(_) => Err(Fault::Socket),
+            .map_err(|_| SiteFault::Socket),
+        Err(_) => Err(SiteFault::Socket),
     }
 }
 
@@ -43,12 +43,12 @@ pub(crate) fn tell_received(
     rt: &HostRuntime,
     alloc: Global,
     stage: &Stage,
-) -> Result<Option<String>, Fault> {
-    let (asking, answering) = connect_ends(rt).map_err(|_| Fault::Socket)?;
-    send(&asking, stage.stream.bytes()).map_err(|_| Fault::Socket)?;
+) -> Result<Option<String>, SiteFault> {
+    let (asking, answering) = connect_ends(rt).map_err(|_| SiteFault::Socket)?;
+    send(&asking, stage.stream.bytes()).map_err(|_| SiteFault::Socket)?;
     reply(alloc, stage, &answering)?;
     match io::read_to_string(alloc, &asking) {
         Ok(report) => Ok(Some(report)),
-        Err(_) => Err(Fault::Socket),
+        Err(_) => Err(SiteFault::Socket),
     }
 }

@@ -8,7 +8,7 @@
 //! holds a connection that waits, and empties it; `connections N` serves the first N of them in
 //! turn over one house. An empty line, and one that begins with `--`, reports nothing.
 use crate::failures::{Calls, tell};
-use crate::fault::Fault;
+use crate::fault::SiteFault;
 use crate::message::{command, first_word, read};
 use crate::socket::tell_received;
 use crate::stream::Stream;
@@ -48,11 +48,11 @@ impl Stage {
     }
 
     // What the stream holds is a connection that waits.
-    fn connect(&mut self, alloc: Global) -> Result<(), Fault> {
+    fn connect(&mut self, alloc: Global) -> Result<(), SiteFault> {
         let stream = self.take(alloc);
         match self.connections.push(stream) {
             Ok(()) => Ok(()),
-            Err(_) => Err(Fault::Memory),
+            Err(_) => Err(SiteFault::Memory),
         }
     }
 
@@ -64,7 +64,7 @@ impl Stage {
 
 /// Plays the lines of a section on a stage of their own. What owns the stage has one end: each end
 /// more would drop it once more.
-pub(crate) fn play(rt: &HostRuntime, alloc: Global, lines: &str) -> Result<(), Fault> {
+pub(crate) fn play(rt: &HostRuntime, alloc: Global, lines: &str) -> Result<(), SiteFault> {
     let mut stage = Stage::new(alloc);
     play_lines(rt, alloc, &mut stage, lines)
 }
@@ -75,7 +75,7 @@ fn play_lines(
     alloc: Global,
     stage: &mut Stage,
     lines: &str,
-) -> Result<(), Fault> {
+) -> Result<(), SiteFault> {
     for line in lines.lines() {
         play_line(rt, alloc, stage, line)?;
     }
@@ -83,7 +83,12 @@ fn play_lines(
 }
 
 // Plays a line, and prints what is reported.
-fn play_line(rt: &HostRuntime, alloc: Global, stage: &mut Stage, line: &str) -> Result<(), Fault> {
+fn play_line(
+    rt: &HostRuntime,
+    alloc: Global,
+    stage: &mut Stage,
+    line: &str,
+) -> Result<(), SiteFault> {
     let line = echo(rt, line)?;
     if let Some(report) = tell_line(rt, alloc, stage, line)? {
         println!(rt; "{report}")?;
@@ -92,10 +97,10 @@ fn play_line(rt: &HostRuntime, alloc: Global, stage: &mut Stage, line: &str) -> 
 }
 
 // The number that a word writes.
-fn number(word: &str) -> Result<usize, Fault> {
+fn number(word: &str) -> Result<usize, SiteFault> {
     match word.parse::<u32>() {
         Ok(number) => Ok(number as usize),
-        Err(_) => Err(Fault::Script),
+        Err(_) => Err(SiteFault::Script),
     }
 }
 
@@ -105,7 +110,7 @@ fn tell_line(
     alloc: Global,
     stage: &mut Stage,
     line: &str,
-) -> Result<Option<String>, Fault> {
+) -> Result<Option<String>, SiteFault> {
     let (word, rest) = first_word(line);
     match word {
         "socket" => tell_received(rt, alloc, stage),
@@ -121,7 +126,7 @@ fn tell_line(
 }
 
 // Plays a line of which nothing is reported.
-fn prepare(alloc: Global, stage: &mut Stage, word: &str, rest: &str) -> Result<(), Fault> {
+fn prepare(alloc: Global, stage: &mut Stage, word: &str, rest: &str) -> Result<(), SiteFault> {
     match word {
         "" | "--" => Ok(()),
         "post" => add(&mut stage.stream, command(alloc, rest)),
@@ -136,12 +141,12 @@ fn prepare(alloc: Global, stage: &mut Stage, word: &str, rest: &str) -> Result<(
             Ok(())
         }
         "connect" => stage.connect(alloc),
-        _ => Err(Fault::Script),
+        _ => Err(SiteFault::Script),
     }
 }
 
 // Adds a message.
-fn add(stream: &mut Stream, message: Result<String, AllocError>) -> Result<(), Fault> {
+fn add(stream: &mut Stream, message: Result<String, AllocError>) -> Result<(), SiteFault> {
     let message = message?;
     Ok(stream.add_message(message.as_str())?)
 }

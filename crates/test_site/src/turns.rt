@@ -1,5 +1,5 @@
 //! Connections that are served in turn over one house.
-use crate::fault::Fault;
+use crate::fault::SiteFault;
 use crate::server::{begin, new_site};
 use crate::stream::Stream;
 use crate::stream_script::Stage;
@@ -29,9 +29,9 @@ fn waiting_connections<'s>(
 fn write_ended(
     text: &mut String,
     ended: &Ended<MemorySource<'_>, MemorySink>,
-) -> Result<(), Fault> {
+) -> Result<(), SiteFault> {
     let Ok(replies) = str::from_utf8(ended.connection.sink.bytes()) else {
-        return Err(Fault::Output);
+        return Err(SiteFault::Output);
     };
     for line in replies.lines() {
         if line.starts_with('{') {
@@ -49,9 +49,9 @@ fn text_of(
     alloc: Global,
     connections: &MemoryConnections<'_>,
     came: bool,
-) -> Result<Option<String>, Fault> {
+) -> Result<Option<String>, SiteFault> {
     if !connections.is_whole() {
-        return Err(Fault::Memory);
+        return Err(SiteFault::Memory);
     }
     let mut text = String::new(alloc);
     for ended in connections.endings() {
@@ -67,7 +67,7 @@ fn tell_over<K: Keep + Drop>(
     stage: &Stage,
     count: u64,
     site: &mut Site<K>,
-) -> Result<Option<String>, Fault> {
+) -> Result<Option<String>, SiteFault> {
     begin(alloc, site, &stage.setup)?;
     let mut connections = waiting_connections(alloc, &stage.connections)?;
     let came = serve_each(alloc, &mut connections, count, site, u64::MAX).is_ok();
@@ -76,7 +76,11 @@ fn tell_over<K: Keep + Drop>(
 
 /// Serves so many of the connections that wait, in turn over a new house that begins by the
 /// messages of the setup. Reports what each is answered and how it ended, and whether so many came.
-pub(crate) fn tell_each(alloc: Global, stage: &Stage, count: u64) -> Result<Option<String>, Fault> {
+pub(crate) fn tell_each(
+    alloc: Global,
+    stage: &Stage,
+    count: u64,
+) -> Result<Option<String>, SiteFault> {
     let mut site = new_site(alloc)?;
     tell_over(alloc, stage, count, &mut site)
 }

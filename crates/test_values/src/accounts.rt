@@ -10,7 +10,7 @@
 //! lines, and its totals. `text pieces N`, `csv pieces N` give what a sink has of it that takes N
 //! bytes at a time, and `text failing N`, `csv failing N` what one has that fails at the Nth call.
 //! A refusal is reported by its name.
-use crate::script::Fault;
+use crate::script::ValuesFault;
 use crate::words::first_word;
 use crate::{amounts, days, sales, statements};
 use settle::{SettleFault, Sold, Statement, Zone};
@@ -26,9 +26,9 @@ pub(crate) struct Accounts {
 
 impl Accounts {
     /// No sales, and no statement.
-    pub(crate) fn new(alloc: Global) -> Result<Accounts, Fault> {
+    pub(crate) fn new(alloc: Global) -> Result<Accounts, ValuesFault> {
         Ok(Accounts {
-            zone: Zone::read("UTC0").map_err(|_| Fault::Script)?,
+            zone: Zone::read("UTC0").map_err(|_| ValuesFault::Script)?,
             sales: Vec::new(alloc),
             statement: None,
         })
@@ -36,7 +36,7 @@ impl Accounts {
 }
 
 /// The name of a refusal.
-pub(crate) fn fault_name(alloc: Global, fault: SettleFault) -> Result<String, Fault> {
+pub(crate) fn fault_name(alloc: Global, fault: SettleFault) -> Result<String, ValuesFault> {
     Ok(format!(in alloc; "{fault:?}")?)
 }
 
@@ -45,7 +45,7 @@ pub(crate) fn play(
     alloc: Global,
     accounts: &mut Accounts,
     line: &str,
-) -> Result<Option<String>, Fault> {
+) -> Result<Option<String>, ValuesFault> {
     let (word, rest) = first_word(line);
     match word {
         "sales" => {
@@ -54,7 +54,7 @@ pub(crate) fn play(
         }
         "sale" => {
             let sale = sales::sale(rest)?;
-            accounts.sales.push(sale).map_err(|_| Fault::Memory)?;
+            accounts.sales.push(sale).map_err(|_| ValuesFault::Memory)?;
             Ok(None)
         }
         _ => Ok(Some(answer(alloc, accounts, word, rest)?)),
@@ -62,7 +62,12 @@ pub(crate) fn play(
 }
 
 // What is answered to a line that asks.
-fn answer(alloc: Global, accounts: &mut Accounts, word: &str, rest: &str) -> Result<String, Fault> {
+fn answer(
+    alloc: Global,
+    accounts: &mut Accounts,
+    word: &str,
+    rest: &str,
+) -> Result<String, ValuesFault> {
     match word {
         "amount" => amounts::amount(alloc, rest),
         "read" => amounts::read(alloc, rest),
@@ -76,6 +81,6 @@ fn answer(alloc: Global, accounts: &mut Accounts, word: &str, rest: &str) -> Res
         "statement" => statements::statement(alloc, accounts, rest),
         "text" => statements::sink_text(alloc, accounts, rest, false),
         "csv" => statements::sink_text(alloc, accounts, rest, true),
-        _ => Err(Fault::Script),
+        _ => Err(ValuesFault::Script),
     }
 }

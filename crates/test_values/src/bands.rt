@@ -6,7 +6,7 @@
 //! fails after N reads. `rows A S A S ..` gives the table of rows, `fifty A S ..` that of rows
 //! after fifty good ones. `example` gives the example table, `step N` the step of it at so many
 //! cents and the least amount above that may be bid, and `faults` has a line for each.
-use crate::script::Fault;
+use crate::script::ValuesFault;
 use crate::words::first_word;
 use crate::{tables, words};
 use std::alloc::Global;
@@ -21,16 +21,20 @@ pub(crate) struct Tables {
 
 impl Tables {
     /// An empty text.
-    pub(crate) fn new(alloc: Global) -> Result<Tables, Fault> {
+    pub(crate) fn new(alloc: Global) -> Result<Tables, ValuesFault> {
         Ok(Tables {
             text: Vec::new(alloc),
-            example: Bands::example(alloc).map_err(|_| Fault::Memory)?,
+            example: Bands::example(alloc).map_err(|_| ValuesFault::Memory)?,
         })
     }
 }
 
 /// Plays a line, and gives what is answered to it, if anything is.
-pub(crate) fn play(alloc: Global, on: &mut Tables, line: &str) -> Result<Option<String>, Fault> {
+pub(crate) fn play(
+    alloc: Global,
+    on: &mut Tables,
+    line: &str,
+) -> Result<Option<String>, ValuesFault> {
     let (word, rest) = first_word(line);
     match word {
         "text" => {
@@ -45,7 +49,7 @@ pub(crate) fn play(alloc: Global, on: &mut Tables, line: &str) -> Result<Option<
 }
 
 // What is answered to a line.
-fn answer(alloc: Global, on: &mut Tables, word: &str, rest: &str) -> Result<String, Fault> {
+fn answer(alloc: Global, on: &mut Tables, word: &str, rest: &str) -> Result<String, ValuesFault> {
     match word {
         "read" => {
             on.text.clear();
@@ -59,6 +63,6 @@ fn answer(alloc: Global, on: &mut Tables, word: &str, rest: &str) -> Result<Stri
         "step" => tables::step(alloc, &on.example, rest),
         "example" => tables::outcome(alloc, Bands::example(alloc)),
         "faults" => Ok(tables::faults(alloc)?),
-        _ => Err(Fault::Script),
+        _ => Err(ValuesFault::Script),
     }
 }

@@ -16,7 +16,7 @@
 //! reported. `offered` says how many bytes the writer was offered in each call, `calls` how many
 //! calls those are, and `written` how many flushes it saw and what it has. `failure` says how a
 //! failure is shown. `-` stands for no limit.
-use crate::script::Fault;
+use crate::script::ValuesFault;
 use crate::words::first_word;
 use crate::writers::Log;
 use crate::{readers, sinks, writers};
@@ -34,10 +34,12 @@ pub(crate) struct Devices {
 
 impl Devices {
     /// A pattern of thirty thousand bytes, an empty sink, and a writer that saw nothing.
-    pub(crate) fn new(alloc: Global) -> Result<Devices, Fault> {
+    pub(crate) fn new(alloc: Global) -> Result<Devices, ValuesFault> {
         let mut pattern = Vec::new(alloc);
         for at in 0_u32..30_000 {
-            pattern.push((at % 251) as u8).map_err(|_| Fault::Memory)?;
+            pattern
+                .push((at % 251) as u8)
+                .map_err(|_| ValuesFault::Memory)?;
         }
         Ok(Devices {
             pattern,
@@ -48,19 +50,23 @@ impl Devices {
 }
 
 /// The error of a name.
-pub(crate) fn error_of(word: &str) -> Result<ErrorKind, Fault> {
+pub(crate) fn error_of(word: &str) -> Result<ErrorKind, ValuesFault> {
     match word {
         "-" | "Other" => Ok(ErrorKind::Other),
         "Interrupted" => Ok(ErrorKind::Interrupted),
         "OutOfMemory" => Ok(ErrorKind::OutOfMemory),
         "WouldBlock" => Ok(ErrorKind::WouldBlock),
         "UnexpectedEof" => Ok(ErrorKind::UnexpectedEof),
-        _ => Err(Fault::Script),
+        _ => Err(ValuesFault::Script),
     }
 }
 
 /// How many bytes there are, and whether they are the first of the pattern.
-pub(crate) fn beginning(alloc: Global, pattern: &[u8], bytes: &[u8]) -> Result<String, Fault> {
+pub(crate) fn beginning(
+    alloc: Global,
+    pattern: &[u8],
+    bytes: &[u8],
+) -> Result<String, ValuesFault> {
     let order = if pattern.starts_with(bytes) {
         "in order"
     } else {
@@ -74,7 +80,7 @@ pub(crate) fn play(
     alloc: Global,
     devices: &mut Devices,
     line: &str,
-) -> Result<Option<String>, Fault> {
+) -> Result<Option<String>, ValuesFault> {
     let (word, rest) = first_word(line);
     if word == "sink" {
         devices.sink = sinks::sink(alloc, rest)?;
@@ -84,7 +90,12 @@ pub(crate) fn play(
 }
 
 // What is answered to a line that asks.
-fn answer(alloc: Global, devices: &mut Devices, word: &str, rest: &str) -> Result<String, Fault> {
+fn answer(
+    alloc: Global,
+    devices: &mut Devices,
+    word: &str,
+    rest: &str,
+) -> Result<String, ValuesFault> {
     match word {
         "give" => sinks::give(alloc, devices, rest),
         "all" => sinks::all(alloc, devices, rest),

@@ -22,15 +22,15 @@ mod tables;
 mod words;
 mod writers;
 
-use script::{Fault, Stage};
+use script::{Stage, ValuesFault};
 use std::alloc::Global;
 use std::io;
 use std::process::ExitCode;
 use transcript::echo;
 
 // Plays the script.
-fn play(rt: &(impl Input + Print), alloc: Global) -> Result<(), Fault> {
-    let script = io::read_to_string(alloc, rt.reader()).map_err(|_| Fault::Script)?;
+fn play(rt: &(impl Input + Print), alloc: Global) -> Result<(), ValuesFault> {
+    let script = io::read_to_string(alloc, rt.reader()).map_err(|_| ValuesFault::Script)?;
     let mut stage = Stage::Nothing;
     play_lines(rt, alloc, &mut stage, script.as_str())
 }
@@ -41,11 +41,11 @@ fn play_lines(
     alloc: Global,
     stage: &mut Stage,
     script: &str,
-) -> Result<(), Fault> {
+) -> Result<(), ValuesFault> {
     for line in script.lines() {
-        let line = echo(rt, line).map_err(|_| Fault::Output)?;
+        let line = echo(rt, line).map_err(|_| ValuesFault::Output)?;
         if let Some(answer) = script::play(alloc, stage, line)? {
-            println!(rt; "{answer}").map_err(|_| Fault::Output)?;
+            println!(rt; "{answer}").map_err(|_| ValuesFault::Output)?;
         }
     }
     Ok(())

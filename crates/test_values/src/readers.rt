@@ -1,6 +1,6 @@
 //! Sources: in memory, and over readers of std.
 use crate::devices::{beginning, error_of};
-use crate::script::Fault;
+use crate::script::ValuesFault;
 use crate::words::{first_word, number, optional};
 use device::{Failure, MemorySink, MemorySource, Reading, Sink, Source, give_all};
 use std::alloc::{AllocError, Global};
@@ -9,14 +9,14 @@ use std::io;
 use std::io::{ErrorKind, Read};
 
 /// What comes of takes from a source in memory, and what was taken.
-pub(crate) fn source(alloc: Global, line: &str) -> Result<String, Fault> {
+pub(crate) fn source(alloc: Global, line: &str) -> Result<String, ValuesFault> {
     let (text, line) = first_word(line);
     let (piece, line) = first_word(line);
     let (call, rooms) = first_word(line);
     let mut source = in_pieces(text.as_bytes(), piece)?;
     if let Some(call) = optional(call)? {
         if call == 0 {
-            return Err(Fault::Script);
+            return Err(ValuesFault::Script);
         }
         source = source.failing_at(call);
     }
@@ -27,10 +27,10 @@ pub(crate) fn source(alloc: Global, line: &str) -> Result<String, Fault> {
     Ok(answer)
 }
 
-fn in_pieces<'b>(bytes: &'b [u8], word: &str) -> Result<MemorySource<'b>, Fault> {
+fn in_pieces<'b>(bytes: &'b [u8], word: &str) -> Result<MemorySource<'b>, ValuesFault> {
     let piece = optional(word)?.unwrap_or(usize::MAX);
     if piece == 0 {
-        return Err(Fault::Script);
+        return Err(ValuesFault::Script);
     }
     Ok(MemorySource::new(bytes).in_pieces(piece))
 }
@@ -41,12 +41,12 @@ fn push_takes(
     taken: &mut String,
     source: &mut MemorySource,
     rooms: &str,
-) -> Result<(), Fault> {
+) -> Result<(), ValuesFault> {
     for room in rooms.split(' ') {
         let room: usize = number(room)?;
         let mut buffer = [0; 10];
         if room > buffer.len() {
-            return Err(Fault::Script);
+            return Err(ValuesFault::Script);
         }
         let outcome = source.take(&mut buffer[..room]);
         write!(answer, "{outcome:?} ")?;
@@ -78,32 +78,32 @@ fn outcome<R: Source>(
     pattern: &[u8],
     source: &mut R,
     sink: &mut MemorySink,
-) -> Result<String, Fault> {
+) -> Result<String, ValuesFault> {
     let calls = move_all(source, sink);
     let bytes = beginning(alloc, pattern, sink.bytes())?;
     Ok(format!(in alloc; "{calls:?} {}", bytes.as_str())?)
 }
 
-fn of_pattern<'b>(pattern: &'b [u8], word: &str) -> Result<&'b [u8], Fault> {
+fn of_pattern<'b>(pattern: &'b [u8], word: &str) -> Result<&'b [u8], ValuesFault> {
     let count: usize = number(word)?;
     Ok(&pattern[..count.min(pattern.len())])
 }
 
 /// Moves bytes from a source in memory to a sink.
-pub(crate) fn move_bytes(alloc: Global, pattern: &[u8], line: &str) -> Result<String, Fault> {
+pub(crate) fn move_bytes(alloc: Global, pattern: &[u8], line: &str) -> Result<String, ValuesFault> {
     let (count, line) = first_word(line);
     let (from, to) = first_word(line);
     let mut source = in_pieces(of_pattern(pattern, count)?, from)?;
     let piece = optional(to)?.unwrap_or(usize::MAX);
     if piece == 0 {
-        return Err(Fault::Script);
+        return Err(ValuesFault::Script);
     }
     let mut sink = MemorySink::new(alloc).in_pieces(piece);
     outcome(alloc, pattern, &mut source, &mut sink)
 }
 
 /// Moves bytes from a reader of std to a sink.
-pub(crate) fn read(alloc: Global, pattern: &[u8], word: &str) -> Result<String, Fault> {
+pub(crate) fn read(alloc: Global, pattern: &[u8], word: &str) -> Result<String, ValuesFault> {
     let mut source = Reading::new(of_pattern(pattern, word)?);
     let mut sink = MemorySink::new(alloc);
     outcome(alloc, pattern, &mut source, &mut sink)
@@ -137,7 +137,7 @@ fn push_four_takes<R: Source>(answer: &mut String, source: &mut R) -> Result<(),
 }
 
 /// What comes of four takes from a reader that fails once, and how many calls it had.
-pub(crate) fn stumbles(alloc: Global, word: &str) -> Result<String, Fault> {
+pub(crate) fn stumbles(alloc: Global, word: &str) -> Result<String, ValuesFault> {
     let mut reader = Stumbling {
         calls: 0,
         error: error_of(word)?,

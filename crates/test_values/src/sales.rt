@@ -3,14 +3,14 @@ ghost use Rattle.std.specs.Prelude.{◌≡◌, ◌≢◌, ◌≤◌, ◌<◌, �
 ghost use Rattle.settle.specs.Lines.{MOST};
 ghost use Rattle.settle.specs.Statement.{IsSale};
 
-use crate::script::Fault;
+use crate::script::ValuesFault;
 use crate::words::{amount, first_word, number};
 use settle::{LAST_MOMENT, SettleFault, Sold};
 use std::alloc::{AllocError, Global};
 use std::fmt::Write;
 
 /// The sale that a line spells.
-pub(crate) fn sale(line: &str) -> Result<Sold, Fault> {
+pub(crate) fn sale(line: &str) -> Result<Sold, ValuesFault> {
     let (item, line) = first_word(line);
     let (seller, line) = first_word(line);
     let (buyer, line) = first_word(line);
@@ -25,12 +25,12 @@ pub(crate) fn sale(line: &str) -> Result<Sold, Fault> {
 }
 
 /// The fee of a price at a rate.
-pub(crate) fn fee(alloc: Global, line: &str) -> Result<String, Fault> {
+pub(crate) fn fee(alloc: Global, line: &str) -> Result<String, ValuesFault> {
     let (price, rate) = first_word(line);
     let price = amount(price)?;
     let rate = number(rate)?;
     if rate > 2000 {
-        return Err(Fault::Script);
+        return Err(ValuesFault::Script);
     }
     Ok(format!(in alloc; "{}", settle::fee(price, rate))?)
 }

@@ -11,7 +11,7 @@ use thiserror::Error;
 
 /// Why a script isn't played on.
 #[derive(Clone, Copy, Debug, Error)]
-pub(crate) enum Fault {
+pub(crate) enum ValuesFault {
     /// A line has no meaning, or the script isn't text.
     #[error("a line is no part of a script")]
     Script,
@@ -26,9 +26,9 @@ pub(crate) enum Fault {
     Output,
 }
 
-impl From<AllocError> for Fault {
-    fn from(_: AllocError) -> Fault {
-        Fault::Memory
+impl From<AllocError> for ValuesFault {
+    fn from(_: AllocError) -> ValuesFault {
+        ValuesFault::Memory
     }
 }
 
@@ -47,18 +47,22 @@ pub(crate) enum Stage {
 
 impl Stage {
     // What a section begins with.
-    fn new(alloc: Global, section: &str) -> Result<Stage, Fault> {
+    fn new(alloc: Global, section: &str) -> Result<Stage, ValuesFault> {
         match section {
             "devices" => Ok(Stage::Devices(Devices::new(alloc)?)),
             "bands" => Ok(Stage::Bands(Tables::new(alloc)?)),
             "accounts" => Ok(Stage::Accounts(Accounts::new(alloc)?)),
-            _ => Err(Fault::Script),
+            _ => Err(ValuesFault::Script),
         }
     }
 }
 
 /// Plays a line, and gives what is answered to it, if anything is.
-pub(crate) fn play(alloc: Global, stage: &mut Stage, line: &str) -> Result<Option<String>, Fault> {
+pub(crate) fn play(
+    alloc: Global,
+    stage: &mut Stage,
+    line: &str,
+) -> Result<Option<String>, ValuesFault> {
     if line.is_empty() || line.starts_with("--") {
         return Ok(None);
     }
@@ -70,12 +74,12 @@ pub(crate) fn play(alloc: Global, stage: &mut Stage, line: &str) -> Result<Optio
         Stage::Devices(devices) => devices::play(alloc, devices, line),
         Stage::Bands(tables) => bands::play(alloc, tables, line),
         Stage::Accounts(accounts) => accounts::play(alloc, accounts, line),
-        Stage::Nothing => Err(Fault::Script),
+        Stage::Nothing => Err(ValuesFault::Script),
     }
 }
 
 // Begins a section.
-fn renew(alloc: Global, stage: &mut Stage, section: &str) -> Result<(), Fault> {
+fn renew(alloc: Global, stage: &mut Stage, section: &str) -> Result<(), ValuesFault> {
     *stage = Stage::new(alloc, section)?;
     Ok(())
 }

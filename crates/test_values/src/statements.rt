@@ -1,7 +1,7 @@
 //! What a statement says, and the bytes that it is written as.
 use crate::accounts::{Accounts, fault_name};
 use crate::sales::are_sales;
-use crate::script::Fault;
+use crate::script::ValuesFault;
 use crate::words::{first_word, number};
 use device::MemorySink;
 use settle::{Day, Statement, lines};
@@ -13,13 +13,13 @@ pub(crate) fn statement(
     alloc: Global,
     accounts: &mut Accounts,
     line: &str,
-) -> Result<String, Fault> {
+) -> Result<String, ValuesFault> {
     let (member, period) = first_word(line);
     let member = number(member)?;
     let (from, to) = first_word(period);
     let (from, to) = (day(from)?, day(to)?);
     if !are_sales(&accounts.sales) {
-        return Err(Fault::Script);
+        return Err(ValuesFault::Script);
     }
     match lines(
         alloc,
@@ -39,8 +39,8 @@ pub(crate) fn statement(
     }
 }
 
-fn day(word: &str) -> Result<Day, Fault> {
-    Day::read(word).map_err(|_| Fault::Script)
+fn day(word: &str) -> Result<Day, ValuesFault> {
+    Day::read(word).map_err(|_| ValuesFault::Script)
 }
 
 // The member of a statement, its lines, and its totals.
@@ -76,26 +76,26 @@ pub(crate) fn sink_text(
     accounts: &Accounts,
     line: &str,
     is_csv: bool,
-) -> Result<String, Fault> {
-    let statement = accounts.statement.as_ref().ok_or(Fault::Script)?;
+) -> Result<String, ValuesFault> {
+    let statement = accounts.statement.as_ref().ok_or(ValuesFault::Script)?;
     let mut sink = sink(alloc, line)?;
     let written = if is_csv {
         statement.write_csv(alloc, &mut sink)
     } else {
         statement.write_text(alloc, &mut sink)
     };
-    let text = str::from_utf8(sink.bytes()).map_err(|_| Fault::Script)?;
+    let text = str::from_utf8(sink.bytes()).map_err(|_| ValuesFault::Script)?;
     Ok(format!(in alloc; "{written:?}\n{text}")?)
 }
 
 // The sink that a line asks for.
-fn sink(alloc: Global, line: &str) -> Result<MemorySink, Fault> {
+fn sink(alloc: Global, line: &str) -> Result<MemorySink, ValuesFault> {
     let sink = MemorySink::new(alloc);
     match first_word(line) {
         ("pieces", size) => {
             let size = number(size)?;
             if size == 0 {
-                Err(Fault::Script)
+                Err(ValuesFault::Script)
             } else {
                 Ok(sink.in_pieces(size))
             }
@@ -103,11 +103,11 @@ fn sink(alloc: Global, line: &str) -> Result<MemorySink, Fault> {
         ("failing", call) => {
             let call = number(call)?;
             if call == 0 {
-                Err(Fault::Script)
+                Err(ValuesFault::Script)
             } else {
                 Ok(sink.failing_at(call))
             }
         }
-        _ => Err(Fault::Script),
+        _ => Err(ValuesFault::Script),
     }
 }

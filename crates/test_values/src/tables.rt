@@ -1,5 +1,5 @@
 //! Band tables, made of rows and read from texts.
-use crate::script::Fault;
+use crate::script::ValuesFault;
 use crate::words::{amount, number};
 use std::alloc::{AllocError, Global};
 use std::fmt::Write;
@@ -8,7 +8,10 @@ use std::io::Read;
 use steps::{Bands, BandsFault};
 
 /// The bands of a table, or why there is none.
-pub(crate) fn outcome(alloc: Global, table: Result<Bands, BandsFault>) -> Result<String, Fault> {
+pub(crate) fn outcome(
+    alloc: Global,
+    table: Result<Bands, BandsFault>,
+) -> Result<String, ValuesFault> {
     match table {
         Ok(bands) => Ok(format!(in alloc; "{:?}", bands.rows())?),
         Err(fault) => Ok(format!(in alloc; "{fault:?}")?),
@@ -16,7 +19,7 @@ pub(crate) fn outcome(alloc: Global, table: Result<Bands, BandsFault>) -> Result
 }
 
 /// The table that a text is read as.
-pub(crate) fn read(alloc: Global, text: &[u8]) -> Result<String, Fault> {
+pub(crate) fn read(alloc: Global, text: &[u8]) -> Result<String, ValuesFault> {
     outcome(alloc, Bands::read(alloc, text))
 }
 
@@ -46,7 +49,7 @@ impl Read for Broken<'_> {
 }
 
 /// What comes of a reader of the text that fails after so many reads.
-pub(crate) fn failing(alloc: Global, text: &[u8], word: &str) -> Result<String, Fault> {
+pub(crate) fn failing(alloc: Global, text: &[u8], word: &str) -> Result<String, ValuesFault> {
     let source = Broken {
         text,
         given: 0,
@@ -56,7 +59,7 @@ pub(crate) fn failing(alloc: Global, text: &[u8], word: &str) -> Result<String, 
 }
 
 /// Adds records of bands that begin at 0, 1 and so on, with steps of five cents.
-pub(crate) fn push_bands(alloc: Global, text: &mut Vec<u8>, word: &str) -> Result<(), Fault> {
+pub(crate) fn push_bands(alloc: Global, text: &mut Vec<u8>, word: &str) -> Result<(), ValuesFault> {
     let bands: u32 = number(word)?;
     for at in 0..bands {
         let record = format!(in alloc; "{at},5\n")?;
@@ -66,17 +69,17 @@ pub(crate) fn push_bands(alloc: Global, text: &mut Vec<u8>, word: &str) -> Resul
 }
 
 /// The table of so many good rows, and after them those that a line spells.
-pub(crate) fn rows(alloc: Global, good: u64, line: &str) -> Result<String, Fault> {
+pub(crate) fn rows(alloc: Global, good: u64, line: &str) -> Result<String, ValuesFault> {
     let mut rows = Vec::new(alloc);
     for at in 0..good {
-        rows.push((at, 5)).map_err(|_| Fault::Memory)?;
+        rows.push((at, 5)).map_err(|_| ValuesFault::Memory)?;
     }
     let mut at = None;
     for word in line.split_ascii_whitespace() {
         match at {
             Some(begin) => {
                 let step = number(word)?;
-                rows.push((begin, step)).map_err(|_| Fault::Memory)?;
+                rows.push((begin, step)).map_err(|_| ValuesFault::Memory)?;
                 at = None;
             }
             None => at = Some(number(word)?),
@@ -89,13 +92,13 @@ pub(crate) fn rows(alloc: Global, good: u64, line: &str) -> Result<String, Fault
         Err(_) => Bands::are_rows(&rows),
     };
     if is_reported_otherwise {
-        return Err(Fault::Table);
+        return Err(ValuesFault::Table);
     }
     outcome(alloc, table)
 }
 
 /// The step at an amount, and the least amount above it that may be bid.
-pub(crate) fn step(alloc: Global, bands: &Bands, word: &str) -> Result<String, Fault> {
+pub(crate) fn step(alloc: Global, bands: &Bands, word: &str) -> Result<String, ValuesFault> {
     let amount = amount(word)?;
     let (step, over) = (bands.step(amount), bands.over(amount));
     Ok(format!(in alloc; "{step} {over}")?)

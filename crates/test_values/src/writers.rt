@@ -1,6 +1,6 @@
 //! Writers of std as gathering sinks.
 use crate::devices::{Devices, beginning, error_of};
-use crate::script::Fault;
+use crate::script::ValuesFault;
 use crate::words::{first_word, number, optional};
 use device::{Failure, Sink, Writing, give_all};
 use std::alloc::Global;
@@ -61,7 +61,7 @@ pub(crate) fn answer(
     devices: &mut Devices,
     word: &str,
     rest: &str,
-) -> Result<String, Fault> {
+) -> Result<String, ValuesFault> {
     match word {
         "write" => write_steps(alloc, devices, rest),
         "offered" => Ok(format!(in alloc; "{:?}", devices.log.offered.as_slice())?),
@@ -70,12 +70,12 @@ pub(crate) fn answer(
             let bytes = beginning(alloc, &devices.pattern, &devices.log.bytes)?;
             Ok(format!(in alloc; "{} {}", devices.log.flushes, bytes.as_str())?)
         }
-        _ => Err(Fault::Script),
+        _ => Err(ValuesFault::Script),
     }
 }
 
 // Makes the steps of a line on a new writer.
-fn write_steps(alloc: Global, devices: &mut Devices, line: &str) -> Result<String, Fault> {
+fn write_steps(alloc: Global, devices: &mut Devices, line: &str) -> Result<String, ValuesFault> {
     let (most, line) = first_word(line);
     let (calls, line) = first_word(line);
     let (error, steps) = first_word(line);
@@ -94,7 +94,7 @@ fn push_steps<W: Sink>(
     sink: &mut W,
     pattern: &[u8],
     steps: &str,
-) -> Result<(), Fault> {
+) -> Result<(), ValuesFault> {
     let mut rest = pattern;
     for word in steps.split_ascii_whitespace() {
         let (outcome, count) = step(sink, rest, word)?;
@@ -110,7 +110,7 @@ fn step<W: Sink>(
     sink: &mut W,
     rest: &[u8],
     word: &str,
-) -> Result<(Result<(), Failure>, usize), Fault> {
+) -> Result<(Result<(), Failure>, usize), ValuesFault> {
     if word == "flush" {
         return Ok((sink.flush(), 0));
     }
