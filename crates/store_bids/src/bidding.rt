@@ -95,7 +95,7 @@ fn write_bid<S: Alter>(
 
 // Places the bid in a transaction of its own. A number that is taken breaks UNIQUE, which is
 // reported as a failure of the store.
-fn place_bid<S: Alter>(
+fn commit_bid<S: Alter>(
     conn: &mut Connection<S>,
     moment: u32,
     item: u32,
@@ -190,7 +190,7 @@ pub fn bid<S: Alter>(
     let moment = stored_moment(moment)?;
     check_standing(conn, rules, item, standing)?;
     let number = placed.no;
-    match place_bid(conn, moment, item, placed, standing) {
+    match commit_bid(conn, moment, item, placed, standing) {
         Ok(()) => Ok(()),
         Err(fault) => Err(placing_fault(conn, item, number, fault)),
     }

@@ -14,8 +14,8 @@ use Rattle.store_bids.proofs.bidding.bid.Goals as goal
 pub check_standing-requires : goal.check_standing-requires
 check_standing-requires g c clean = let rest = c.requires.rests clean in (rest.is_open, rest.house, c.requires.reserves clean)
 
-pub place_bid-requires-clause-rests : goal.place_bid-requires-clause-rests
-place_bid-requires-clause-rests g c clean =
+pub commit_bid-requires-clause-rests : goal.commit_bid-requires-clause-rests
+commit_bid-requires-clause-rests g c clean =
     let before : HasCleanDisk (state g.S.Store c.args.conn.now) = omega (arith, c.check_standing.ensures.finds.read.crash.clean, clean) in
     still_rests _ _ (c.in_ok-check_standing.ensures.finds.read.same clean) (c.requires.rests before)
 
@@ -37,14 +37,14 @@ returns-in_err-check_standing-clause-damaged g c clean here fits free =
 
 pub returns-in-Ok-clause-commit : goal.returns-in-Ok-clause-commit
 returns-in-Ok-clause-commit g c =
-    commits_after (state g.S.Store c.args.conn.now) (state g.S.Store c.check_standing.new.conn) (state g.S.Store c.place_bid.new.conn) (change.Bid c.args.moment c.args.item c.args.placed c.args.standing.now) _
+    commits_after (state g.S.Store c.args.conn.now) (state g.S.Store c.check_standing.new.conn) (state g.S.Store c.commit_bid.new.conn) (change.Bid c.args.moment c.args.item c.args.placed c.args.standing.now) _
     c.in_ok-check_standing.ensures.finds.read.same c.check_standing.ensures.finds.read.crash (rw c.in_ok-moment.ensures.value at c.in-Ok.ensures.commit)
 
 pub returns-in-Err-clause-commit : goal.returns-in-Err-clause-commit
 returns-in-Err-clause-commit g c =
-    let failed = commits_after (state g.S.Store c.args.conn.now) (state g.S.Store c.check_standing.new.conn) (state g.S.Store c.place_bid.new.conn) (change.Bid c.args.moment c.args.item c.args.placed c.args.standing.now) _
+    let failed = commits_after (state g.S.Store c.args.conn.now) (state g.S.Store c.check_standing.new.conn) (state g.S.Store c.commit_bid.new.conn) (change.Bid c.args.moment c.args.item c.args.placed c.args.standing.now) _
     c.in_ok-check_standing.ensures.finds.read.same c.check_standing.ensures.finds.read.crash (rw c.in_ok-moment.ensures.value at c.in-Err.ensures.commit) in
-    commits_reported (state g.S.Store c.args.conn.now) (state g.S.Store c.place_bid.new.conn) (state g.S.Store c.placing_fault.new.conn) (change.Bid c.args.moment c.args.item c.args.placed c.args.standing.now) c.in-Err.fault c.placing_fault.result
+    commits_reported (state g.S.Store c.args.conn.now) (state g.S.Store c.commit_bid.new.conn) (state g.S.Store c.placing_fault.new.conn) (change.Bid c.args.moment c.args.item c.args.placed c.args.standing.now) c.in-Err.fault c.placing_fault.result
     failed c.placing_fault.ensures.kept (c.placing_fault.ensures.mode c.in-Err.ensures.commit.mode) c.placing_fault.ensures.crash
 
 pub returns-in-Ok-clause-there : goal.returns-in-Ok-clause-there
@@ -60,11 +60,11 @@ returns-in-Ok-clause-taken g c = λ clean.
 
 pub returns-in-Err-clause-damaged : goal.returns-in-Err-clause-damaged
 returns-in-Err-clause-damaged g c clean here fits free is =
-    let last : HasCleanDisk (state g.S.Store c.place_bid.new.conn) = omega (arith, c.placing_fault.ensures.crash.clean, clean) in
+    let last : HasCleanDisk (state g.S.Store c.commit_bid.new.conn) = omega (arith, c.placing_fault.ensures.crash.clean, clean) in
     let mid : HasCleanDisk (state g.S.Store c.check_standing.new.conn) = omega (arith, c.in-Err.ensures.commit.crash.clean, last) in
     let before : HasCleanDisk (state g.S.Store c.args.conn.now) = omega (arith, c.check_standing.ensures.finds.read.crash.clean, mid) in
     let calm : c.in-Err.fault ≢ Damaged = λ e. c.in-Err.ensures.sound (ap Err e) in
     let report = c.placing_fault.ensures.taken clean calm (let e : c.placing_fault.result ≡ Damaged = cc in e) in
     let same = (c.in_ok-check_standing.ensures.finds.read.same mid).0 in
-    let shown : (state g.S.Store c.place_bid.new.conn).now ≡ (state g.S.Store c.args.conn.now).now = (c.in-Err.ensures.commit.err last report.0).0 ∙ same.committed_is ∙ sym (c.requires.rests before).settled in
+    let shown : (state g.S.Store c.commit_bid.new.conn).now ≡ (state g.S.Store c.args.conn.now).now = (c.in-Err.ensures.commit.err last report.0).0 ∙ same.committed_is ∙ sym (c.requires.rests before).settled in
     true≢false (sym (subst (λ (db : Database). list_any (λ b. (b.item == c.args.item) && (b.bid.no == c.args.placed.no)) (tables_in db.trees).bids ≡ true) shown report.1) ∙ free)

@@ -9,7 +9,7 @@ use Rattle.store_rows.specs.Tables.{tables_in}
 use Rattle.store_rows.proofs.CommitSteps.{survives_commit}
 use Rattle.store_items.proofs.ConsistentRows.{ok_so}
 use Rattle.store_items.proofs.Undone.{back_undone, survives_undone}
-use Rattle.store_bids.proofs.bidding.place_bid.Goals as goal
+use Rattle.store_bids.proofs.bidding.commit_bid.Goals as goal
 
 pub returns-clause-commit : goal.returns-clause-commit
 returns-clause-commit g c = record {
