@@ -30,7 +30,7 @@ fn set_bands<K: Keep>(keep: &mut K, moment: u64, command: &Command) -> Result<u3
         Ok(Err(refusal)) => Err(TaskFault::Refused(refusal)),
         Ok(Ok(change)) => {
             keep.apply(&change)?;
-            Ok(keep.newest()?)
+            Ok(keep.editions()?.newest())
         }
     }
 }

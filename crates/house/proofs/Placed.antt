@@ -47,7 +47,7 @@ use Rattle.house.proofs.Rows.{apart_from}
 use Rattle.house.proofs.Taken.{found_fits, item_at_fits}
 use Rattle.house.specs.Decided.{IsAccepted, of_terms}
 use Rattle.house.specs.Refused.{as_refusal}
-use Rattle.house.specs.Taken.{ItemAtFits}
+use Rattle.house_rows.specs.Taken.{ItemFitsAt}
 
 -- the rules of a bid up to its range, and those of the item's bids
 abbrev pub first_rules : ℕ → ℕ → ℕ → Terms → List Rule
@@ -321,7 +321,7 @@ bid_refused t settings given h moment caller item maximum terms kept member amou
     rw f.numbered_so at (judged settings h moment caller maximum l f.listed now first' ∙ sym answer)
 
 -- the change fits where they take it
-pub bid_fits : (t : Tables) (given : List (ℕ × ℕ)) (moment caller item maximum : ℕ) (terms : Terms) (kept after : Kept) (member amount count : ℕ) → ItemAtFits t item
+pub bid_fits : (t : Tables) (given : List (ℕ × ℕ)) (moment caller item maximum : ℕ) (terms : Terms) (kept after : Kept) (member amount count : ℕ) → ItemFitsAt item t
     → terms_at t item ≡ Some terms → None ≡ first_failing (common_rules t.clock (length t.members) moment caller false) → None ≡ first_failing (first_rules moment caller maximum terms)
     → standing_at t item ≡ Some kept → given ≡ bands_for t item → member ≡ caller → amount ≡ maximum → count ≡ after.count
     → ((bids : List bid.Bid) → kept ≡ standing_of given (opening_of kept) bids

@@ -19,10 +19,11 @@ use Rattle.house_rows.proofs.ChangedRows.{there_numbered}
 use Rattle.house_rows.proofs.Every.{found_has, found_is}
 use Rattle.house_rows.proofs.Sound.{change_rows_fit, fit_where}
 use Rattle.house.specs.Decided.{IfAccepted}
-use Rattle.house.specs.Taken.{CommandRowsFit, FitsByRows, ItemAtFits}
+use Rattle.house_rows.specs.Taken.{ItemFitsAt}
+use Rattle.house.specs.Taken.{CommandRowsFit, FitsByRows}
 
 -- the row that is found of a number fits where that item does
-pub found_fits : (t : Tables) (item : ℕ) (row : ItemRow) → ItemAtFits t item
+pub found_fits : (t : Tables) (item : ℕ) (row : ItemRow) → ItemFitsAt item t
     → row_at t item ≡ Some row → ItemRowFits (bands_for t item) row
 found_fits t item row fits there =
     let passed = found_is (is_item item) t.items row there in
@@ -31,7 +32,7 @@ found_fits t item row fits there =
     subst (λ (n : ℕ). ItemRowFits (bands_for t n) row) (there_numbered t item row there) here
 
 -- over sound tables each item does
-pub item_at_fits : (t : Tables) (item : ℕ) → AreSound t → ItemAtFits t item
+pub item_at_fits : (t : Tables) (item : ℕ) → AreSound t → ItemFitsAt item t
 item_at_fits t item sound = fit_where (is_item item) (RowFits t) t.items sound.items
 
 -- and what is found of rows that all fit

@@ -59,7 +59,7 @@ fn table_refused<K: Keep>(keep: &K, bands: &Rows<(u64, u64)>) -> Result<Option<R
     if !Bands::are_rows(bands.as_slice()) {
         return Ok(Some(Refusal::Range));
     }
-    if keep.newest()? >= MOST_EDITIONS {
+    if keep.editions()?.newest() >= MOST_EDITIONS {
         return Ok(Some(Refusal::Limit));
     }
     Ok(None)

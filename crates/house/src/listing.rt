@@ -4,8 +4,6 @@ ghost use Rattle.std.specs.List.{list_all, list_any};
 ghost use Rattle.proxy.specs.Rules.{first_failing};
 ghost use Rattle.house_rows.specs.Answers.{Answers};
 ghost use Rattle.house_rows.specs.declared.command.Command.TheVariants as command;
-ghost use Rattle.house_rows.specs.Fits.{CategoryFits, IsItem};
-ghost use Rattle.house_rows.specs.Found.{category_at, item_with_lot};
 ghost use Rattle.house_rows.specs.Limits.{most_cents};
 ghost use Rattle.house_rows.specs.Text.{has_length, is_lot, is_lot_byte, same_text};
 ghost use Rattle.house_rows.specs.Verdict.{are_terms, is_buy_now, is_reserve};
@@ -13,6 +11,7 @@ ghost use Rattle.house.specs.Decides.{Decides};
 ghost use Rattle.house.specs.Judged.{first_rules};
 ghost use Rattle.house.specs.Offered.{AreOf, offer_rules, terms_rules, report};
 ghost use Rattle.house.specs.Taken.{LotAndCategoryFit};
+ghost use Rattle.house_rows.specs.Taken.{CategoryFitsAt, ItemIsOurs};
 
 use crate::targets::{common, is_text};
 use cents::Cents;
@@ -129,7 +128,7 @@ fn judge_terms<K: Keep>(
     requires going { K.is_failed keep.old ≡ false }
     ensures answers { Answers K.Keep keep.old keep.new result
         (λ t r. report r ≡ first_failing (terms_rules t moment offer.now))
-        (λ t. IfSome (category_at t offer.now.category) CategoryFits) }
+        (CategoryFitsAt offer.now.category) }
     ensures same { K.is_honest keep.new → IfOk result (λ r. IfOk r (AreOf offer.now)) }
 {
     let Some(prices) = prices_in_range(moment, offer) else {
@@ -149,7 +148,7 @@ fn judge_terms<K: Keep>(
 fn category_number<K: Keep>(keep: &mut K, category: u64) -> Result<Option<u32>, KeepFault>
     ensures answers { Answers K.Keep keep.old keep.new result
         (λ t number. is_some number ≡ list_any (λ k. k.category == category) t.categories)
-        (λ t. IfSome (category_at t category) CategoryFits) }
+        (CategoryFitsAt category) }
     ensures same { K.is_honest keep.new → IfOk result (λ v. IfSome v (λ n. n ≡ category)) }
 {
     if keep.has_category(category)? {
@@ -164,7 +163,7 @@ fn category_number<K: Keep>(keep: &mut K, category: u64) -> Result<Option<u32>, 
 fn has_lot<K: Keep>(keep: &mut K, seller: u64, lot: &Text) -> Result<bool, KeepFault>
     ensures { Answers K.Keep keep.old keep.new result (λ t has. has ≡ list_any
         (λ row. (row.item.terms.seller == seller) && same_text row.item.lot lot.now) t.items)
-        (λ t. IfSome (item_with_lot t seller lot.now) IsItem) }
+        (ItemIsOurs seller lot.now) }
 {
     Ok(keep.item_of(seller, lot.as_str())?.is_some())
 }

@@ -1,15 +1,15 @@
 //! Registering members and adding categories.
-ghost use Rattle.std.specs.Prelude.{◌≡◌, ◌++◌, IfSome, false, true};
+ghost use Rattle.std.specs.Prelude.{◌≡◌, ◌++◌, false, true};
 ghost use Rattle.std.specs.List.{list_any};
 ghost use Rattle.proxy.specs.Rules.{first_failing};
 ghost use Rattle.house_rows.specs.Answers.{Answers};
 ghost use Rattle.house_rows.specs.declared.command.Command.TheVariants as command;
-ghost use Rattle.house_rows.specs.Fits.{CategoryFits, MemberFits};
 ghost use Rattle.house_rows.specs.Found.{category_named, member_named};
 ghost use Rattle.house_rows.specs.Text.{same_text};
 ghost use Rattle.house_rows.specs.Verdict.{category_rules, register_rules};
 ghost use Rattle.house.specs.Decides.{Decides};
 ghost use Rattle.house.specs.Judged.{first_rules};
+ghost use Rattle.house_rows.specs.Taken.{CategoryFitsNamed, MemberFitsNamed};
 
 use crate::targets::{common, is_text};
 use house_rows::{Change, Keep, KeepFault, MOST_CATEGORIES, MOST_MEMBERS, Refusal, Text};
@@ -39,7 +39,7 @@ fn register_refused<K: Keep>(
 ) -> Result<Option<Refusal>, KeepFault>
     ensures { Answers K.Keep keep.old keep.new result (λ t r. r ≡ first_failing (
         first_rules t moment caller true ++ register_rules name.now t.members))
-        (λ t. IfSome (member_named t name.now) MemberFits) }
+        (MemberFitsNamed name.now) }
 {
     match common(keep, moment, caller, true)? {
         Some(refusal) => Ok(Some(refusal)),
@@ -52,7 +52,7 @@ fn member_refused<K: Keep>(keep: &mut K, name: &Text) -> Result<Option<Refusal>,
     requires going { K.is_failed keep.old ≡ false }
     ensures { Answers K.Keep keep.old keep.new result
         (λ t r. r ≡ first_failing (register_rules name.now t.members))
-        (λ t. IfSome (member_named t name.now) MemberFits) }
+        (MemberFitsNamed name.now) }
 {
     if !is_text(1, 40, name) {
         return Ok(Some(Refusal::Range));
@@ -91,7 +91,7 @@ fn add_category_refused<K: Keep>(
 ) -> Result<Option<Refusal>, KeepFault>
     ensures { Answers K.Keep keep.old keep.new result (λ t r. r ≡ first_failing (
         first_rules t moment caller true ++ category_rules name.now t.categories))
-        (λ t. IfSome (category_named t name.now) CategoryFits) }
+        (CategoryFitsNamed name.now) }
 {
     match common(keep, moment, caller, true)? {
         Some(refusal) => Ok(Some(refusal)),
@@ -104,7 +104,7 @@ fn category_refused<K: Keep>(keep: &mut K, name: &Text) -> Result<Option<Refusal
     requires going { K.is_failed keep.old ≡ false }
     ensures { Answers K.Keep keep.old keep.new result
         (λ t r. r ≡ first_failing (category_rules name.now t.categories))
-        (λ t. IfSome (category_named t name.now) CategoryFits) }
+        (CategoryFitsNamed name.now) }
 {
     if !is_text(1, 40, name) {
         return Ok(Some(Refusal::Range));
@@ -123,7 +123,7 @@ fn category_refused<K: Keep>(keep: &mut K, name: &Text) -> Result<Option<Refusal
 fn is_member_named<K: Keep>(keep: &mut K, name: &Text) -> Result<bool, KeepFault>
     ensures { Answers K.Keep keep.old keep.new result
         (λ t is. is ≡ list_any (λ m. same_text m.name name.now) t.members)
-        (λ t. IfSome (member_named t name.now) MemberFits) }
+        (MemberFitsNamed name.now) }
 {
     Ok(keep.member_named(name.as_str())?.is_some())
 }
@@ -133,7 +133,7 @@ fn is_member_named<K: Keep>(keep: &mut K, name: &Text) -> Result<bool, KeepFault
 fn is_category_named<K: Keep>(keep: &mut K, name: &Text) -> Result<bool, KeepFault>
     ensures { Answers K.Keep keep.old keep.new result
         (λ t is. is ≡ list_any (λ k. same_text k.name name.now) t.categories)
-        (λ t. IfSome (category_named t name.now) CategoryFits) }
+        (CategoryFitsNamed name.now) }
 {
     Ok(keep.category_named(name.as_str())?.is_some())
 }

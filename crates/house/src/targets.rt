@@ -6,8 +6,8 @@ ghost use Rattle.house_rows.specs.declared.item.Terms.{Terms as TheTerms};
 ghost use Rattle.house_rows.specs.Found.{standing_at, terms_at};
 ghost use Rattle.house_rows.specs.Verdict.{Rule, open_rules};
 ghost use Rattle.house.specs.Judged.{IsNamed, first_rules, item_rules};
-ghost use Rattle.house.specs.Taken.{ItemAtFits};
-ghost use Rattle.house_rows.specs.Text.{has_length, is_text};
+ghost use Rattle.house_rows.specs.Text.{is_text};
+ghost use Rattle.house_rows.specs.Taken.{ItemFitsAt};
 
 use house_rows::{Keep, KeepFault, Refusal, State, Terms, Text};
 use proxy::Standing;
@@ -44,7 +44,7 @@ pub(crate) fn named_item<K: Keep>(
     item: u64,
 ) -> Result<Result<Terms, Refusal>, KeepFault>
     ensures answers { Answers K.Keep keep.old keep.new result
-        (λ t named. IsNamed t moment caller of_house item named) (λ t. ItemAtFits t item) }
+        (λ t named. IsNamed t moment caller of_house item named) (ItemFitsAt item) }
     ensures numbered { IfOk result (λ r. OnOk r (caller < 2 ^ 32)) }
 {
     if let Some(refusal) = common(keep, moment, caller, of_house)? {
@@ -66,7 +66,7 @@ pub(crate) fn on_item<K: Keep>(
         × (None ≡ first_failing (first_rules t moment caller false)))
         (λ refusal. (rules : TheTerms → List Rule)
         → Some refusal ≡ first_failing (item_rules t moment caller false item rules)))
-        (λ t. ItemAtFits t item) }
+        (ItemFitsAt item) }
 {
     let terms = match named_item(keep, moment, caller, false, item)? {
         Ok(terms) => terms,
@@ -93,7 +93,7 @@ pub(crate) fn on_auction<K: Keep>(
         × (None ≡ first_failing (first_rules t moment caller false)))
         (λ refusal. (rules : TheTerms → List Rule)
         → Some refusal ≡ first_failing (item_rules t moment caller false item rules)))
-        (λ t. ItemAtFits t item) }
+        (ItemFitsAt item) }
 {
     if let Some(refusal) = common(keep, moment, caller, false)? {
         return Ok(Err(refusal));

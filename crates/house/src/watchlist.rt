@@ -2,10 +2,9 @@
 ghost use Rattle.std.specs.Prelude.{◌≡◌, ◌==◌, ◌||◌, nat_lt};
 ghost use Rattle.house_rows.specs.Answers.{Answers};
 ghost use Rattle.house_rows.specs.declared.command.Command.TheVariants as command;
-ghost use Rattle.house_rows.specs.Fits.{WatchRowFits};
 ghost use Rattle.house_rows.specs.Found.{is_watched, watch_count};
 ghost use Rattle.house_rows.specs.Limits.{most_watches};
-ghost use Rattle.house_rows.specs.Taken.{FitWhere};
+ghost use Rattle.house_rows.specs.Taken.{WatchesFit};
 ghost use Rattle.house.specs.Decides.{Decides};
 
 use crate::targets::on_item;
@@ -37,7 +36,7 @@ pub fn watch<'c, K: Keep>(
 fn may_watch<K: Keep>(keep: &mut K, member: u64, item: u64) -> Result<bool, KeepFault>
     ensures { Answers K.Keep keep.old keep.new result
         (λ t may. may ≡ (is_watched t member item || nat_lt (watch_count t member) most_watches))
-        (λ t. FitWhere (λ w. w.member == member) WatchRowFits t.watches) }
+        (WatchesFit member) }
 {
     if keep.watched(member, item)? {
         return Ok(true);

@@ -17,6 +17,7 @@ pub mod CommandResult
 pub mod Pages
 pub mod Runs
 pub mod Changed
+pub mod Consistent
 pub mod Found
 pub mod Fits
 pub mod Asks

@@ -1,17 +1,21 @@
 -- Which rows a look-up or a list of a keep takes: that these fit is enough for it not to be damaged.
-use Rattle.std.specs.Prelude.{◌≡◌, ◌-◌, ◌==◌, ◌||◌, ◌&&◌, ◌<◌, ◌^◌, if◌then◌else◌, ℕ, List, [], ◌∷◌, Bool, true, Result, IsErrOf, filter, is_some, nat_le, nat_lt, not, take}
+use Rattle.std.specs.Prelude.{◌≡◌, ◌-◌, ◌==◌, ◌||◌, ◌&&◌, ◌<◌, ◌^◌, if◌then◌else◌, ℕ, List, [], ◌∷◌, Bool, true, IfSome, Result, IsErrOf, filter, is_some, nat_le, nat_lt, not, take}
 use Rattle.std.specs.List.{AllByRecursion}
 use Rattle.proxy.specs.Bids.{is_leader}
 use Rattle.house_rows.specs.declared.fault.KeepFault.{KeepFault}
 use Rattle.house_rows.specs.declared.fault.KeepFault.TheVariants.{Damaged}
 use Rattle.house_rows.specs.declared.talk.Feedback.{Feedback}
 use Rattle.house_rows.specs.declared.talk.Question.{Question}
-use Rattle.house_rows.specs.Fits.{FeedbackFits, QuestionFits, WatchRowFits}
-use Rattle.house_rows.specs.Found.{is_watched, row_at, sells}
+use Rattle.house_rows.specs.Changed.{is_item}
+use Rattle.house_rows.specs.Fits.{BidRowFits, CategoryFits, FeedbackFits, IsItem, MemberFits, QuestionFits, WatchRowFits}
+use Rattle.house_rows.specs.Found.{category_at, category_named, is_watched, item_with_lot, member_named, question_at, row_at, sells}
 use Rattle.house_rows.specs.History.{counted}
+use Rattle.house_rows.specs.Items.{is_due}
 use Rattle.house_rows.specs.Keeping.{RowFits}
 use Rattle.house_rows.specs.Limits.{most_shown}
-use Rattle.house_rows.specs.Tables.{ItemRow, Tables}
+use Rattle.house_rows.specs.Pages.{member_at}
+use Rattle.house_rows.specs.Reached.{FitsSoFar}
+use Rattle.house_rows.specs.Tables.{ItemRow, Tables, band_tables}
 
 abbrev pub IsUndamaged : {A : Type 0} → Result A KeepFault → Type 0
 IsUndamaged result = ¬ (IsErrOf result Damaged)
@@ -99,7 +103,8 @@ pub record GivenFit (member from : ℕ) (rows : List Feedback) : Type 0 where
 abbrev pub waits_for : Tables → ℕ → Question → Bool
 waits_for t member q = not (is_some q.answer) && sells (row_at t q.item) member
 
--- the items that a member sells fit, and the questions that wait for its answer
+-- the items that a member sells fit, each of which is found before the first question is looked for,
+-- and the questions that wait for its answer
 abbrev pub AllWaitingFit : ℕ → Tables → Type 0
 AllWaitingFit member t =
     ItemsFitWhere (λ row. row.item.terms.seller == member) t
@@ -110,3 +115,66 @@ abbrev pub FirstWaitingFit : ℕ → Tables → Type 0
 FirstWaitingFit member t =
     ItemsFitWhere (λ row. row.item.terms.seller == member) t
     × FirstFit (waits_for t member) (λ q. q.item) QuestionFits t.questions
+
+-- ---- what each look-up of a keep takes, by what it is asked for
+
+abbrev pub MemberFitsAt : ℕ → Tables → Type 0
+MemberFitsAt member t = IfSome (member_at t.members member) MemberFits
+
+abbrev pub MemberFitsNamed : List ℕ → Tables → Type 0
+MemberFitsNamed name t = IfSome (member_named t name) MemberFits
+
+abbrev pub CategoryFitsAt : ℕ → Tables → Type 0
+CategoryFitsAt category t = IfSome (category_at t category) CategoryFits
+
+abbrev pub CategoryFitsNamed : List ℕ → Tables → Type 0
+CategoryFitsNamed name t = IfSome (category_named t name) CategoryFits
+
+abbrev pub ItemFitsAt : ℕ → Tables → Type 0
+ItemFitsAt item = ItemsFitWhere (is_item item)
+
+-- the number of a seller's item with a lot is one of ours
+abbrev pub ItemIsOurs : ℕ → List ℕ → Tables → Type 0
+ItemIsOurs seller lot t = IfSome (item_with_lot t seller lot) IsItem
+
+-- a member's bids on an item
+abbrev pub OwnBidsFitOn : ℕ → ℕ → Tables → Type 0
+OwnBidsFitOn item member t =
+    FitWhere (λ b. (b.bid.member == member) && (b.item == item)) BidRowFits t.bids
+
+abbrev pub WatchesFit : ℕ → Tables → Type 0
+WatchesFit member t = FitWhere (λ w. w.member == member) WatchRowFits t.watches
+
+abbrev pub QuestionFitsAt : ℕ → ℕ → ℕ → Tables → Type 0
+QuestionFitsAt item asker number t = IfSome (question_at t item asker number) QuestionFits
+
+abbrev pub FeedbackFitsFrom : ℕ → Tables → Type 0
+FeedbackFitsFrom giver t = FitWhere (λ f. f.from == giver) FeedbackFits t.feedback
+
+abbrev pub FeedbackFitsTo : ℕ → Tables → Type 0
+FeedbackFitsTo member t = FitWhere (λ f. f.to == member) FeedbackFits t.feedback
+
+-- the items that a close at a moment takes
+abbrev pub DueItemsFit : ℕ → Tables → Type 0
+DueItemsFit moment = ItemsFitWhere (λ row. is_due moment row.item.terms)
+
+-- what a member's list of its bids takes. An item whose number is none of ours stands in the tables
+-- under one that a bid may name, first or last: so the list takes the number of each item
+abbrev pub OwnBidsFit : ℕ → ℕ → Tables → Type 0
+OwnBidsFit member from t = FitsSoFar (band_tables t) t member from
+
+abbrev pub FirstPublishedFit : ℕ → ℕ → Tables → Type 0
+FirstPublishedFit item from t = PublishedFit item (start_of from) t.questions
+
+abbrev pub FirstAskedFit : ℕ → ℕ → Tables → Type 0
+FirstAskedFit member from t = AskedFit member (start_of from) t.questions
+
+abbrev pub FirstGivenFit : ℕ → ℕ → Tables → Type 0
+FirstGivenFit member from t = GivenFit member (start_of from) t.feedback
+
+abbrev pub AllPublishedFit : Tables → Type 0
+AllPublishedFit t = FitWhere (λ q. is_some q.answer) QuestionFits t.questions
+
+-- the items to whose sale a member may be a party
+abbrev pub SalesFit : ℕ → Tables → Type 0
+SalesFit member = ItemsFitWhere (may_be_party member)

@@ -142,11 +142,21 @@ fn on_band_tables<K: Keep>(
     ensures read { Reads K.Keep keep.old keep.new }
 {
     match name {
-        "newest" => line(alloc, keep.newest()),
-        "edition" => line(alloc, keep.edition_of(number)),
+        "newest" => line(alloc, newest(keep)),
+        "edition" => line(alloc, edition_of(keep, number)),
         "bands" => line(alloc, bands(alloc, keep, number)),
         _ => Err(ScriptFault::Script),
     }
+}
+
+// The number of the newest edition.
+fn newest<K: Keep>(keep: &K) -> Result<u32, KeepFault> {
+    Ok(keep.editions()?.newest())
+}
+
+// The edition by which an item goes.
+fn edition_of<K: Keep>(keep: &K, item: u64) -> Result<u32, KeepFault> {
+    Ok(keep.editions()?.edition_of(item))
 }
 
 // The rows of the band table of an edition, if there is one.
@@ -155,7 +165,7 @@ fn bands<K: Keep>(
     keep: &K,
     edition: u64,
 ) -> Result<Option<Vec<(u64, u64)>>, KeepFault> {
-    match keep.bands_of(edition)? {
+    match keep.editions()?.bands_of(edition) {
         Some(bands) => Ok(Some(bands.rows().to_vec(alloc)?)),
         None => Ok(None),
     }

@@ -62,7 +62,7 @@ pub(crate) fn bands_of<K: Keep>(
 ) -> Result<Page, KeepFault>
     ensures { MakesPage K.Keep keep.old keep.new result shown_by 0 (query.BandsOf edition) }
 {
-    match keep.bands_of(edition)? {
+    match keep.editions()?.bands_of(edition) {
         None => Ok(Page::Refused(Refusal::Unknown)),
         Some(bands) => Ok(bands_page(alloc, bands)?),
     }

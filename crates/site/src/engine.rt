@@ -223,7 +223,8 @@ impl<K: Keep + Drop> Site<K> {
         ensures read { Reads K.Keep self.old.keep self.new.keep }
         ensures zone { zone_of self.new ≡ zone_of self.old }
     {
-        let newest = self.keep.newest()?;
+        let editions = self.keep.editions()?;
+        let newest = editions.newest();
         let counts = self.keep.counts()?;
         let clock = self.keep.clock()?;
         Ok(are_blank(newest, counts, clock))

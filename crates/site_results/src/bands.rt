@@ -13,7 +13,7 @@ pub(crate) fn next_edition<K: Keep>(keep: &K) -> Result<CommandResult, KeepFault
     ensures faults { Faults result (K.is_honest keep.now) (K.is_failed keep.now) (K.content keep.now) }
     ensures damaged { K.is_honest keep.now → IsUndamaged result }
 {
-    let newest = keep.newest()?;
+    let newest = keep.editions()?.newest();
     Ok(CommandResult::Edition {
         edition: newest.saturating_add(1),
     })

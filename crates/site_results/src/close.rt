@@ -2,8 +2,7 @@
 ghost use Rattle.std.specs.Prelude.{◌≡◌};
 ghost use Rattle.house_rows.specs.Answers.{Answers};
 ghost use Rattle.house_rows.specs.Found.{due_at};
-ghost use Rattle.house_rows.specs.Items.{is_due};
-ghost use Rattle.house_rows.specs.Taken.{ItemsFitWhere};
+ghost use Rattle.house_rows.specs.Taken.{DueItemsFit};
 
 use house_rows::{CommandResult, Keep, KeepFault};
 
@@ -12,7 +11,7 @@ use house_rows::{CommandResult, Keep, KeepFault};
 pub(crate) fn tell_close<K: Keep>(keep: &mut K, moment: u64) -> Result<CommandResult, KeepFault>
     ensures { Answers K.Keep keep.old keep.new result
         (λ t r. r ≡ CommandResult.Closed (due_at t moment).sold (due_at t moment).unsold)
-        (λ t. ItemsFitWhere (λ row. is_due moment row.item.terms) t) }
+        (DueItemsFit moment) }
 {
     let due = keep.due(moment)?;
     Ok(CommandResult::Closed {

@@ -3,9 +3,8 @@ ghost use Rattle.std.specs.Prelude.{◌≡◌, ◌≤◌, ◌-◌, Some};
 ghost use Rattle.settle.specs.Fee.{fee_of};
 ghost use Rattle.house_rows.specs.Answers.{Answers};
 ghost use Rattle.house_rows.specs.declared.item.Terms.{Terms as TheTerms};
-ghost use Rattle.house_rows.specs.Changed.{is_item};
 ghost use Rattle.house_rows.specs.Found.{terms_at};
-ghost use Rattle.house_rows.specs.Taken.{ItemsFitWhere};
+ghost use Rattle.house_rows.specs.Taken.{ItemFitsAt};
 
 use cents::Cents;
 use house_rows::{CommandResult, Keep, KeepFault};
@@ -16,7 +15,7 @@ pub(crate) fn tell_settlement<K: Keep>(keep: &mut K, item: u32) -> Result<Comman
         (λ t r. (terms : TheTerms) → terms_at t item ≡ Some terms
         → r ≡ CommandResult.Settlement (fee_of terms.price t.settings.rate) item
         (terms.price - fee_of terms.price t.settings.rate) terms.price)
-        (λ t. ItemsFitWhere (is_item item) t) }
+        (ItemFitsAt item) }
 {
     let rate = keep.settings()?.rate.value();
     match keep.terms(u64::from(item))? {

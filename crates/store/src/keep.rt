@@ -19,7 +19,6 @@ use settle::Sold;
 use sqlite::{Alter, Connection};
 use std::alloc::Global;
 use std::marker::Model;
-use steps::Bands;
 use store_bids::{own_best, own_bids};
 use store_house::{
     all_categories, all_members, category_at, category_named, has_category, has_member, member_at,
@@ -115,21 +114,6 @@ impl<S: Alter> Keep for SqlKeep<S> {
     fn editions(&self) -> Result<&Editions, KeepFault> {
         self.serves()?;
         Ok(&self.rules.editions)
-    }
-
-    fn newest(&self) -> Result<u32, KeepFault> {
-        self.serves()?;
-        Ok(self.rules.editions.newest())
-    }
-
-    fn edition_of(&self, item: u64) -> Result<u32, KeepFault> {
-        self.serves()?;
-        Ok(self.rules.editions.edition_of(item))
-    }
-
-    fn bands_of(&self, edition: u64) -> Result<Option<&Bands>, KeepFault> {
-        self.serves()?;
-        Ok(self.rules.editions.bands_of(edition))
     }
 
     fn clock(&mut self) -> Result<u64, KeepFault> {

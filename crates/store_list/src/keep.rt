@@ -21,7 +21,6 @@ use std::alloc::Global;
 use std::hash::RandomState;
 use std::marker::Model;
 use std::random::RandomSource;
-use steps::Bands;
 
 /// The tables of a house, each in the order of its keys. Clauses see the `Tables`, which are sound.
 #[derive(Drop)]
@@ -120,18 +119,6 @@ impl Keep for ListKeep {
 
     fn editions(&self) -> Result<&Editions, KeepFault> {
         Ok(&self.editions)
-    }
-
-    fn newest(&self) -> Result<u32, KeepFault> {
-        Ok(self.editions.newest())
-    }
-
-    fn edition_of(&self, item: u64) -> Result<u32, KeepFault> {
-        Ok(self.editions.edition_of(item))
-    }
-
-    fn bands_of(&self, edition: u64) -> Result<Option<&Bands>, KeepFault> {
-        Ok(self.editions.bands_of(edition))
     }
 
     fn clock(&mut self) -> Result<u64, KeepFault> {
