@@ -1,14 +1,22 @@
 -- The result of a change, by the tables that it is made to.
-use Rattle.std.specs.Prelude.{◌≡◌, ◌<◌, ◌+◌, ◌-◌, List, Some, length, true, false}
+use Rattle.std.specs.Prelude.{◌≡◌, ◌<◌, ◌+◌, ◌-◌, ℕ, List, ◌∷◌, IfOk, Result, Some, length, true, false}
 use Rattle.proxy.specs.Bids.{floor, standing_of}
 use Rattle.proxy.specs.Kept.{opening_of}
 use Rattle.proxy.specs.declared.bid.Bid.{Bid}
 use Rattle.settle.specs.Fee.{fee_of}
+use Rattle.house.specs.Decided.{IsAccepted}
+use Rattle.house.specs.Own.{IsOf}
+use Rattle.house_rows.specs.CommandResult.{result_of}
+use Rattle.house_rows.specs.History.{History}
+use Rattle.house_rows.specs.Runs.{entry}
 use Rattle.house_rows.specs.declared.change.Change.{Change}
 use Rattle.house_rows.specs.declared.change.Change.TheVariants as change
+use Rattle.house_rows.specs.declared.command.Command.{Command}
 use Rattle.house_rows.specs.declared.command_result.CommandResult.{CommandResult}
 use Rattle.house_rows.specs.declared.command_result.CommandResult.TheVariants as told
+use Rattle.house_rows.specs.declared.fault.KeepFault.{KeepFault}
 use Rattle.house_rows.specs.declared.item.Terms.{Terms}
+use Rattle.house_rows.specs.declared.settings.Settings.{Settings}
 use Rattle.house_rows.specs.Found.{due_at, terms_at}
 use Rattle.house_rows.specs.Limits.{most_categories, most_editions, most_items, most_members}
 use Rattle.house_rows.specs.Tables.{Tables, bands_for}
@@ -42,3 +50,12 @@ IsResultBy t (change.Feedback moment item from to rating text) result =
     result ≡ told.Rated item rating to
 IsResultBy t (change.SetBands moment bands) result =
     length t.editions + 1 < most_editions → result ≡ told.Edition (length t.editions + 2)
+
+-- over the tables of a history: of each command that was accepted with this change, the result that
+-- the history gives it
+abbrev pub IsResultOver : Settings → History → Change → Result CommandResult KeepFault → Type 0
+IsResultOver settings h change result =
+    (moment caller : ℕ) (command : Command)
+    → IsAccepted settings h moment caller command change
+    → IsOf moment caller command change
+    → IfOk result (λ r. r ≡ result_of settings (entry moment caller command ∷ h) moment caller command h)

@@ -1,13 +1,8 @@
 //! What the caller is told of a change that was made.
-ghost use Rattle.std.specs.Prelude.{◌≡◌, ◌∷◌, ℕ, false, IfOk};
-ghost use Rattle.house.specs.Decided.{IsAccepted};
-ghost use Rattle.house.specs.Own.{IsOf};
+ghost use Rattle.std.specs.Prelude.{◌≡◌, false};
 ghost use Rattle.house_rows.specs.Answers.{Answers, OverHistory};
-ghost use Rattle.house_rows.specs.declared.command.Command.{Command};
 ghost use Rattle.house_rows.specs.Making.{ChangeRowsFit};
-ghost use Rattle.house_rows.specs.Runs.{entry};
-ghost use Rattle.house_rows.specs.CommandResult.{result_of};
-ghost use Rattle.site_results.specs.ByTables.{IsResultBy};
+ghost use Rattle.site_results.specs.ByTables.{IsResultBy, IsResultOver};
 
 use crate::bands::next_edition;
 use crate::bidding::tell_bid;
@@ -21,31 +16,29 @@ use house_rows::{Change, CommandResult, Keep, KeepFault};
 /// change. The keep has not failed; nothing is changed.
 pub fn tell<K: Keep>(keep: &mut K, change: &Change<'_>) -> Result<CommandResult, KeepFault>
     requires going { K.is_failed keep.old ≡ false }
-    ensures report { OverHistory K.Keep keep.old keep.new (λ settings h.
-        (moment caller : ℕ) (command : Command)
-        → IsAccepted settings h moment caller command change.now
-        → IsOf moment caller command change.now → IfOk result (λ r. r
-        ≡ result_of settings (entry moment caller command ∷ h) moment caller command h)) }
+    ensures report { OverHistory K.Keep keep.old keep.new
+        (λ settings h. IsResultOver settings h change.now result) }
     ensures answers { Answers K.Keep keep.old keep.new result
         (λ t r. IsResultBy t change.now r) (λ t. ChangeRowsFit t change.now) }
 {
-    match change {
+    match *change {
         Change::Register { .. } => tell_member(keep),
         Change::AddCategory { .. } => tell_category(keep),
         Change::List { .. } => tell_listing(keep),
-        Change::Bid { item, standing, .. } => tell_bid(keep, *item, standing),
-        Change::Buy { item, price, .. } => Ok(CommandResult::Bought {
-            item: *item,
-            price: *price,
-        }),
-        Change::Close { moment } => tell_close(keep, *moment),
-        Change::Settle { item, .. } => tell_settlement(keep, *item),
+        Change::Bid {
+            item,
+            ref standing,
+            ..
+        } => tell_bid(keep, item, standing),
+        Change::Buy { item, price, .. } => Ok(CommandResult::Bought { item, price }),
+        Change::Close { moment } => tell_close(keep, moment),
+        Change::Settle { item, .. } => tell_settlement(keep, item),
         Change::Watch { item, .. } => Ok(CommandResult::Watched {
-            item: *item,
+            item,
             watched: true,
         }),
         Change::Unwatch { item, .. } => Ok(CommandResult::Watched {
-            item: *item,
+            item,
             watched: false,
         }),
         Change::Ask {
@@ -54,9 +47,9 @@ pub fn tell<K: Keep>(keep: &mut K, change: &Change<'_>) -> Result<CommandResult,
             number,
             ..
         } => Ok(CommandResult::Question {
-            asker: *asker,
-            item: *item,
-            number: *number,
+            asker,
+            item,
+            number,
         }),
         Change::Answer {
             item,
@@ -64,20 +57,16 @@ pub fn tell<K: Keep>(keep: &mut K, change: &Change<'_>) -> Result<CommandResult,
             number,
             ..
         } => Ok(CommandResult::Question {
-            asker: *asker,
-            item: *item,
-            number: *number,
+            asker,
+            item,
+            number,
         }),
         Change::Feedback {
             item,
             to,
             rating,
             ..
-        } => Ok(CommandResult::Rated {
-            item: *item,
-            rating: *rating,
-            to: *to,
-        }),
+        } => Ok(CommandResult::Rated { item, rating, to }),
         Change::SetBands { .. } => next_edition(keep),
     }
 }
