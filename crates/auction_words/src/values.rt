@@ -1,5 +1,5 @@
 //! The values of the words, each read or refused.
-ghost use Rattle.std.specs.Prelude.{◌≡◌, IfOk};
+ghost use Rattle.std.specs.Prelude.{◌≡◌, IfErr, IfOk};
 ghost use Rattle.std.specs.Int.{IsInRange};
 ghost use Rattle.clap.specs.Values.{kind_of};
 ghost use Rattle.clap.specs.declared.error.kind.ErrorKind.TheVariants.{ValueValidation};
@@ -17,7 +17,9 @@ pub struct Refused {
 }
 
 /// A text of the words, which is there in all that `clap` takes.
-pub fn text<'a>(words: &ArgMatches<'a>, name: &'static str) -> Result<&'a str, Refused> {
+pub fn text<'a>(words: &ArgMatches<'a>, name: &'static str) -> Result<&'a str, Refused>
+    ensures { IfErr result (λ refused. refused.name.now ≡ name.now) }
+{
     match words.get_str(name) {
         Some(text) => Ok(text),
         None => Err(Refused { name }),
