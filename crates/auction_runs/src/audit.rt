@@ -1,7 +1,8 @@
 //! `audit`: two runs of messages, compared as one member sees them.
 ghost use Rattle.std.specs.Prelude.{◌≡◌, ◌≤◌, ◌↔◌, true, Ok, IfErr, IfOk, OnOk, map};
 ghost use Rattle.std.specs.Io.KnownBytes.{Appends};
-ghost use Rattle.auction_runs.specs.Audited.{Finds, HasAudited, HasMessages, HasReported, IsReported, IsUncompared, IsUnread, IsUnreported};
+ghost use Rattle.auction_runs.specs.Audited.{Finds, HasAudited, HasMessages, HasReported};
+ghost use Rattle.auction_runs.specs.Audited.{IsReported, IsUncompared, IsUnread, IsUnreported};
 ghost use Rattle.auction_runs.specs.Faults.{IsOfKeep, fault_of_messages};
 ghost use Rattle.auction_runs.specs.Printed.{apart_line, equal_line};
 ghost use Rattle.settle.specs.Zoned.{IsZoneOf};

@@ -1,6 +1,8 @@
 //! Why the program ends at a fault: the lines on standard error and the exit statuses.
 ghost use Rattle.std.specs.Prelude.{◌≡◌, ◌≤◌, ◌↔◌, IfErr, IsErr, IsOk};
-ghost use Rattle.auction_runs.specs.Faults.{fault_of_audit, fault_of_import, fault_of_keep, fault_of_serving, fault_of_settings, fault_of_settling, fault_of_statement};
+ghost use Rattle.auction_runs.specs.Faults.{fault_of_audit, fault_of_import, fault_of_keep};
+ghost use Rattle.auction_runs.specs.Faults.{fault_of_serving, fault_of_settings, fault_of_settling};
+ghost use Rattle.auction_runs.specs.Faults.{fault_of_statement};
 ghost use Rattle.auction_runs.specs.Lines.{IsTold, side_name};
 
 use crate::line::give_line;

@@ -3,7 +3,8 @@ ghost use Rattle.std.specs.Prelude.{◌≡◌, ◌≤◌, ◌⊎◌, ◌↔◌, 
 ghost use Rattle.std.specs.Io.KnownBytes.{Keeps};
 ghost use Rattle.auction_runs.specs.Faults.{fault_of_import};
 ghost use Rattle.auction_runs.specs.Lines.{IsTold};
-ghost use Rattle.auction_runs.specs.Listed.{HasAll, HasDealt, HasOrderedOnly, HasPrinted, HasTaken, IsDealtPart, IsKnown, IsOrderedOver};
+ghost use Rattle.auction_runs.specs.Listed.{HasAll, HasDealt, HasOrderedOnly, HasPrinted, HasTaken};
+ghost use Rattle.auction_runs.specs.Listed.{IsDealtPart, IsKnown, IsOrderedOver};
 ghost use Rattle.auction_runs.specs.declared.fault.TaskFault.{TaskFault as ReportedFault};
 ghost use Rattle.office.specs.declared.fault.ImportFault.{ImportFault as TheFault};
 ghost use Rattle.office.specs.declared.tally.Imported.{Imported as TheReport};

@@ -18,7 +18,8 @@ INSERT INTO item (id, seller, category, start, ending, state, price, count) VALU
 // What a house reads of an item before it decides on a bid, and again before it writes one.
 fn read_item<S: Alter>(conn: &mut Connection<S>) -> Result<(), Error> {
     conn.query_all(
-        "SELECT id, seller, category, start, buy_now, ending, state, closed, price, leader, count, top, second FROM item WHERE id = ?1 ORDER BY id",
+        "SELECT id, seller, category, start, buy_now, ending, state, closed, price, leader, \
+        count, top, second FROM item WHERE id = ?1 ORDER BY id",
         params![1u32],
     )?;
     Ok(())

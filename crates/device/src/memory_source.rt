@@ -1,5 +1,6 @@
 //! A source over bytes in memory, for tests.
-ghost use Rattle.std.specs.Prelude.{◌≡◌, ◌≤◌, ◌<◌, ◌-◌, ◌↔◌, ◌⊎◌, ℕ, List, Option, Some, None, true, false, length, min, IfOk, OnOk, IsErr};
+ghost use Rattle.std.specs.Prelude.{◌≡◌, ◌≤◌, ◌<◌, ◌-◌, ◌↔◌, ◌⊎◌, ℕ, List, Option, Some, None};
+ghost use Rattle.std.specs.Prelude.{true, false, length, min, IfOk, OnOk, IsErr};
 ghost use Rattle.std.specs.Io.KnownBytes.{ReadConsumes};
 ghost use Rattle.device.specs.Calls.{one_less};
 

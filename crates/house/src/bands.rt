@@ -52,7 +52,9 @@ fn set_bands_refused<K: Keep>(
 // Why a band table can't be set.
 fn table_refused<K: Keep>(keep: &K, bands: &Rows<(u64, u64)>) -> Result<Option<Refusal>, KeepFault>
     requires going { K.is_failed keep.now ≡ false }
-    ensures value { K.is_honest keep.now → IfOk result (λ r. r ≡ first_failing (table_rules bands.now (length (K.content keep.now).editions + 1))) }
+    ensures value { K.is_honest keep.now
+        → IfOk result (λ r. r ≡ first_failing
+        (table_rules bands.now (length (K.content keep.now).editions + 1))) }
     ensures faults { Faults result (K.is_honest keep.now) (K.is_failed keep.now) (K.content keep.now) }
     ensures damaged { K.is_honest keep.now → IsUndamaged result }
 {

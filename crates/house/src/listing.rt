@@ -170,8 +170,10 @@ fn has_lot<K: Keep>(keep: &mut K, seller: u64, lot: &Text) -> Result<bool, KeepF
 
 // The prices of an offer, where all of it but lot and category is in range.
 fn prices_in_range(moment: u64, offer: &Offer<'_>) -> Option<Prices>
-    ensures fits { is_some result ≡ are_terms moment offer.now.title.now offer.now.text.now offer.now.start offer.now.buy_now offer.now.end offer.now.reserve }
-    ensures same { IfSome result (λ p. (p.start ≡ offer.now.start) × (p.buy_now ≡ offer.now.buy_now) × (p.reserve ≡ offer.now.reserve)) }
+    ensures fits { is_some result ≡ are_terms moment offer.now.title.now offer.now.text.now
+        offer.now.start offer.now.buy_now offer.now.end offer.now.reserve }
+    ensures same { IfSome result (λ p. (p.start ≡ offer.now.start) × (p.buy_now ≡ offer.now.buy_now)
+        × (p.reserve ≡ offer.now.reserve)) }
 {
     let is_described = is_text(1, 80, offer.title) && is_text(0, 2000, offer.text);
     if !is_described || offer.end <= moment || offer.end > LAST_MOMENT {
@@ -182,7 +184,9 @@ fn prices_in_range(moment: u64, offer: &Offer<'_>) -> Option<Prices>
 
 // Prices of so many cents, where they are in range.
 fn prices_of(start: u64, buy_now: Option<u64>, reserve: Option<u64>) -> Option<Prices>
-    ensures fits { is_some result ≡ (nat_le 1 start && (nat_le start most_cents && (is_buy_now start buy_now && is_reserve start buy_now reserve))) }
+    ensures fits { is_some result ≡ (nat_le 1 start
+        && (nat_le start most_cents && (is_buy_now start buy_now
+        && is_reserve start buy_now reserve))) }
     ensures same { IfSome result (λ p. (p.start ≡ start) × (p.buy_now ≡ buy_now) × (p.reserve ≡ reserve)) }
 {
     if start == 0 {

@@ -13,7 +13,9 @@ ghost use Rattle.house_rows.specs.Runs.{entry};
 ghost use Rattle.house_rows.specs.Tables.{bands_for, edition_for, tables_of};
 ghost use Rattle.house_rows.specs.Verdict.{IsHistory};
 ghost use Rattle.house_rows.specs.Views.{public_view};
-ghost use Rattle.house_laws.specs.EditionRows.{EachItemKeepsItsTable, NewTableIsForNewItems, NextItemGoesByTheNewest, TablesAreJudged, TablesAreShown};
+ghost use Rattle.house_laws.specs.EditionRows.{EachItemKeepsItsTable, NewTableIsForNewItems};
+ghost use Rattle.house_laws.specs.EditionRows.{NextItemGoesByTheNewest, TablesAreJudged};
+ghost use Rattle.house_laws.specs.EditionRows.{TablesAreShown};
 ghost use Rattle.house_laws.specs.Reads.{tells_clock_or_bands};
 
 /// A band table that is set changes nothing that anybody sees of any item: price, floor, leader, state

@@ -8,7 +8,9 @@ ghost use Rattle.house_rows.specs.History.{History};
 ghost use Rattle.house_rows.specs.Listings.{Listing, listing_at, listings};
 ghost use Rattle.house_rows.specs.Verdict.{IsHistory, verdict};
 ghost use Rattle.house_rows.specs.Views.{own_watches};
-ghost use Rattle.house_laws.specs.EdgeRows.{CloseLeavesWhatWasBought, ListingRulesComeInOrder, ListingsAreRefused, PartiesOfAPurchaseRateEachOther, RaiseLiftsACappedPrice, StepBeginsAtItsBand};
+ghost use Rattle.house_laws.specs.EdgeRows.{CloseLeavesWhatWasBought, ListingRulesComeInOrder};
+ghost use Rattle.house_laws.specs.EdgeRows.{ListingsAreRefused, PartiesOfAPurchaseRateEachOther};
+ghost use Rattle.house_laws.specs.EdgeRows.{RaiseLiftsACappedPrice, StepBeginsAtItsBand};
 ghost use Rattle.house_laws.specs.Watching.{MayCommand, is_watched};
 
 /// The definitions give the values that were worked out by hand at the edges of the rules;

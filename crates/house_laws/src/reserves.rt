@@ -1,5 +1,9 @@
 //! Worked rows of reserves.
-ghost use Rattle.house_laws.specs.ReserveRows.{MetReserveIsThePrice, MetReserveMakesNoTwin, OwnReserveMakesNoTwin, RaiseMeetsTheReserve, ReserveIsInRange, ReservesAreTheSellers, SealedReservesMakeTwins, UnbidReserveIsUnmet, UnmetReserveIsNotSold, UnmetReserveLeavesThePrice};
+ghost use Rattle.house_laws.specs.ReserveRows.{MetReserveIsThePrice, MetReserveMakesNoTwin};
+ghost use Rattle.house_laws.specs.ReserveRows.{OwnReserveMakesNoTwin, RaiseMeetsTheReserve};
+ghost use Rattle.house_laws.specs.ReserveRows.{ReserveIsInRange, ReservesAreTheSellers};
+ghost use Rattle.house_laws.specs.ReserveRows.{SealedReservesMakeTwins, UnbidReserveIsUnmet};
+ghost use Rattle.house_laws.specs.ReserveRows.{UnmetReserveIsNotSold, UnmetReserveLeavesThePrice};
 
 /// The definitions give the values that were worked out by hand for reserves;
 /// `specs/ReserveRows.antt` has them.

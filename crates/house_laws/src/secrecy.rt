@@ -109,5 +109,6 @@ pub fn replies_depend_on_views()
     ensures report { (settings : Settings) (c : ℕ) (h k : History) (moment : ℕ) (command : Command)
         → AreAlike settings c h k
         → public_view settings (entry moment c command ∷ h) ≡ public_view settings (entry moment c command ∷ k)
-        → result_of settings (entry moment c command ∷ h) moment c command h ≡ result_of settings (entry moment c command ∷ k) moment c command k }
+        → result_of settings (entry moment c command ∷ h) moment c command h
+        ≡ result_of settings (entry moment c command ∷ k) moment c command k }
 {}

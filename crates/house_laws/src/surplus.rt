@@ -1,7 +1,11 @@
 //! A surplus is invisible.
 ghost use Rattle.std.specs.Prelude.{◌≡◌, ◌↔◌, ℕ, List};
 ghost use Rattle.steps.specs.Table.{IsBandTable};
-ghost use Rattle.house_laws.specs.SurplusRuns.{BidThatIsNotTheLastMakesNoTwin, LeaderWhoIsOvertakenMakesNoTwin, LessThanAStepMakesNoTwin, MaximumUnderTheReserveMakesNoTwin, MetReserveIsCovered, SurplusIsCovered};
+ghost use Rattle.house_laws.specs.SurplusRuns.{BidThatIsNotTheLastMakesNoTwin};
+ghost use Rattle.house_laws.specs.SurplusRuns.{LeaderWhoIsOvertakenMakesNoTwin};
+ghost use Rattle.house_laws.specs.SurplusRuns.{LessThanAStepMakesNoTwin};
+ghost use Rattle.house_laws.specs.SurplusRuns.{MaximumUnderTheReserveMakesNoTwin};
+ghost use Rattle.house_laws.specs.SurplusRuns.{MetReserveIsCovered, SurplusIsCovered};
 ghost use Rattle.house_laws.specs.Covered.{IsCovered, IsLedByBoth, Sealed, bid_message, raised, with_maximum};
 ghost use Rattle.house_rows.specs.declared.message.Message.{Message};
 ghost use Rattle.house_rows.specs.declared.reply.Reply.{Reply};
@@ -14,12 +18,17 @@ ghost use Rattle.house_rows.specs.Runs.{AreTwins, Twin, rendered_to, replies_to}
 ///
 /// `twins` and `rendered` say so of whatever means a message, and `messages` and `replies` of messages.
 pub fn surplus_is_invisible<A, B, F>()
-    ensures twins { (meant : A → Message F) (settings : Settings) (c place y : ℕ) (b : Sealed) (run : List A) (other : A)
-        → IsBandTable settings.bands → IsCovered meant settings c place y b run → meant other ≡ bid_message (with_maximum y b)
+    ensures twins { (meant : A → Message F) (settings : Settings)
+        (c place y : ℕ) (b : Sealed) (run : List A) (other : A)
+        → IsBandTable settings.bands → IsCovered meant settings c place y b run
+        → meant other ≡ bid_message (with_maximum y b)
         → AreTwins meant settings c run (raised place other run) }
-    ensures rendered { (meant : A → Message F) (rendered : A → Reply F → B) (settings : Settings) (c place y : ℕ) (b : Sealed) (run : List A) (other : A)
-        → IsBandTable settings.bands → IsCovered meant settings c place y b run → meant other ≡ bid_message (with_maximum y b)
-        → rendered_to meant rendered settings c run ≡ rendered_to meant rendered settings c (raised place other run) }
+    ensures rendered { (meant : A → Message F) (rendered : A → Reply F → B) (settings : Settings)
+        (c place y : ℕ) (b : Sealed) (run : List A) (other : A)
+        → IsBandTable settings.bands → IsCovered meant settings c place y b run
+        → meant other ≡ bid_message (with_maximum y b)
+        → rendered_to meant rendered settings c run
+        ≡ rendered_to meant rendered settings c (raised place other run) }
     ensures messages { (settings : Settings) (c place y : ℕ) (b : Sealed) (run : List (Message F))
         → IsBandTable settings.bands → IsCovered (λ m. m) settings c place y b run
         → Twin settings c run (raised place (bid_message (with_maximum y b)) run) }

@@ -1,6 +1,10 @@
 //! Twin runs and twin lives that differ: the premises of isolation are met by them.
-ghost use Rattle.house_laws.specs.TwinLives.{KeptBidMakesNoTwin, OwnChoiceIsAnswered, OwnChoiceMakesNoTwin, SealedLivesAreTwins, TwinLivesGetTheseReplies};
-ghost use Rattle.house_laws.specs.TwinRuns.{CappedPriceMakesNoTwin, LowMaximumCapsThePrice, OwnMessageMakesNoTwin, SealedMaximaMakeTwins, TwinsGetTheseReplies};
+ghost use Rattle.house_laws.specs.TwinLives.{KeptBidMakesNoTwin, OwnChoiceIsAnswered};
+ghost use Rattle.house_laws.specs.TwinLives.{OwnChoiceMakesNoTwin, SealedLivesAreTwins};
+ghost use Rattle.house_laws.specs.TwinLives.{TwinLivesGetTheseReplies};
+ghost use Rattle.house_laws.specs.TwinRuns.{CappedPriceMakesNoTwin, LowMaximumCapsThePrice};
+ghost use Rattle.house_laws.specs.TwinRuns.{OwnMessageMakesNoTwin, SealedMaximaMakeTwins};
+ghost use Rattle.house_laws.specs.TwinRuns.{TwinsGetTheseReplies};
 
 /// Two runs of eight messages in which another's sealed maximum differs are twins for a member, and
 /// these are the replies to it there; where the price shows the difference, or the message is its

@@ -1,6 +1,23 @@
 //! Worked rows: the definitions on literal histories.
-ghost use Rattle.house_laws.specs.WorkedRows.{AnswersAreTheSellersAndOnce, AskLeavesTheClock, BidAtTheEndIsTooLate, BidUnderTheSealedTopIsAccepted, BuyNowStandsUntilTheFirstBid, CallersAreKnown, CloseTakesWhatEndsNow, EarlierMomentIsRefused, EqualMaximumAtOneMomentKeepsTheEarlierLeader, EqualMaximumKeepsTheEarlierLeader, FeeIsRoundedDown, FirstBidTakesTheStart, GreatRaisePaysOneStepOver, GreatestAmountIsTaken, HigherBidPaysOneStepOver, ItemIsShown, LowBidIsRefused, NamesAndLotsAreTakenOnce, OnlyAnsweredQuestionsArePublished, OwnBidsAreShown, PartiesRateEachOtherOnce, QuestionsAreNumberedByAsker, RaiseIsNoSecondBidder, SameMaximumIsRefused, SellersKeepOffTheirItems, WatchLeavesTheClock};
-ghost use Rattle.house_laws.specs.WrongReadings.{CloseTakesWhatEndsNow as CloseTakes, FeesAreRoundedDown, QuestionNumbersAreNotShared, RaisesAreNoSecondBidder, StepsAreTakenAtTheSecond, TiesGoToTheEarlier, WatchAndAskLeaveTheClock};
+ghost use Rattle.house_laws.specs.WorkedRows.{AnswersAreTheSellersAndOnce, AskLeavesTheClock};
+ghost use Rattle.house_laws.specs.WorkedRows.{BidAtTheEndIsTooLate, BidUnderTheSealedTopIsAccepted};
+ghost use Rattle.house_laws.specs.WorkedRows.{BuyNowStandsUntilTheFirstBid, CallersAreKnown};
+ghost use Rattle.house_laws.specs.WorkedRows.{CloseTakesWhatEndsNow, EarlierMomentIsRefused};
+ghost use Rattle.house_laws.specs.WorkedRows.{EqualMaximumAtOneMomentKeepsTheEarlierLeader};
+ghost use Rattle.house_laws.specs.WorkedRows.{EqualMaximumKeepsTheEarlierLeader, FeeIsRoundedDown};
+ghost use Rattle.house_laws.specs.WorkedRows.{FirstBidTakesTheStart, GreatRaisePaysOneStepOver};
+ghost use Rattle.house_laws.specs.WorkedRows.{GreatestAmountIsTaken, HigherBidPaysOneStepOver};
+ghost use Rattle.house_laws.specs.WorkedRows.{ItemIsShown, LowBidIsRefused};
+ghost use Rattle.house_laws.specs.WorkedRows.{NamesAndLotsAreTakenOnce};
+ghost use Rattle.house_laws.specs.WorkedRows.{OnlyAnsweredQuestionsArePublished, OwnBidsAreShown};
+ghost use Rattle.house_laws.specs.WorkedRows.{PartiesRateEachOtherOnce};
+ghost use Rattle.house_laws.specs.WorkedRows.{QuestionsAreNumberedByAsker, RaiseIsNoSecondBidder};
+ghost use Rattle.house_laws.specs.WorkedRows.{SameMaximumIsRefused, SellersKeepOffTheirItems};
+ghost use Rattle.house_laws.specs.WorkedRows.{WatchLeavesTheClock};
+ghost use Rattle.house_laws.specs.WrongReadings.{CloseTakesWhatEndsNow as CloseTakes};
+ghost use Rattle.house_laws.specs.WrongReadings.{FeesAreRoundedDown, QuestionNumbersAreNotShared};
+ghost use Rattle.house_laws.specs.WrongReadings.{RaisesAreNoSecondBidder, StepsAreTakenAtTheSecond};
+ghost use Rattle.house_laws.specs.WrongReadings.{TiesGoToTheEarlier, WatchAndAskLeaveTheClock};
 
 /// The definitions give the values that were worked out by hand; `specs/WorkedRows.antt` has them.
 pub fn worked_rows()

@@ -1,6 +1,7 @@
 //! What a house was set up with, and the band tables that it has set since.
 ghost use Rattle.std.specs.Prelude.{◌≡◌, ◌<◌, ◌++◌, ◌∷◌, ◌+◌, [], List, OnOk, OnErr, length, map, option_map};
-ghost use Rattle.house_rows.specs.Editions.{bands_among, bands_in, bands_of, edition_among, edition_in, newest_bands_in, newest_in, table_of};
+ghost use Rattle.house_rows.specs.Editions.{bands_among, bands_in, bands_of, edition_among};
+ghost use Rattle.house_rows.specs.Editions.{edition_in, newest_bands_in, newest_in, table_of};
 ghost use Rattle.house_rows.specs.Limits.{most_editions};
 ghost use Rattle.house_rows.specs.declared.edition.Edition.{Edition as TheEdition};
 ghost use Rattle.house_rows.specs.Listings.{newest_of};

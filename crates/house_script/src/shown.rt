@@ -153,7 +153,8 @@ impl Shown for Listing {
         let (start, end) = (terms.start.value(), terms.end);
         write!(
             line,
-            "item {number}, seller {seller}, category {category}, {lot}, {title}, {text}, start {start}, buy_now {buy_now}, end {end}"
+            "item {number}, seller {seller}, category {category}, {lot}, {title}, {text}, start \
+            {start}, buy_now {buy_now}, end {end}"
         )
     }
 }

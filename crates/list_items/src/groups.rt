@@ -36,7 +36,9 @@ pub(crate) fn reserve(
 /// One more item shares it, for which there is room.
 pub(crate) fn add(groups: &mut BTreeMap<u64, Vec<u32>>, shared: u64, number: u32)
     requires room { has_room groups.old shared ≡ true }
-    ensures { (k : ℕ) → numbers_at groups.new k ≡ (if shared == k then numbers_at groups.old k ++ number ∷ [] else numbers_at groups.old k) }
+    ensures { (k : ℕ) → numbers_at groups.new k
+        ≡ (if shared == k then numbers_at groups.old k ++ number ∷ []
+        else numbers_at groups.old k) }
 {
     if let Some(numbers) = groups.get_mut(&shared) {
         let _ = numbers.push(number);

@@ -1,5 +1,8 @@
 //! The table of items, and the calls that read and change it.
-ghost use Rattle.std.specs.Prelude.{◌≡◌, ◌<◌, ◌+◌, ◌++◌, ◌∷◌, [], ◌==◌, ◌&&◌, Bool, true, ⊤, ℕ, List, nat_le, filter, find, map, option_and_then, option_map, take, length, Some, None, false, is_some, IfOk, IfErr, OnOk, OnErr, IfSome, ◌⊎◌};
+ghost use Rattle.std.specs.Prelude.{◌≡◌, ◌<◌, ◌+◌, ◌++◌, ◌∷◌, [], ◌==◌, ◌&&◌, Bool, true, ⊤, ℕ};
+ghost use Rattle.std.specs.Prelude.{List, nat_le, filter, find, map, option_and_then, option_map};
+ghost use Rattle.std.specs.Prelude.{take, length, Some, None, false, is_some, IfOk, IfErr, OnOk};
+ghost use Rattle.std.specs.Prelude.{OnErr, IfSome, ◌⊎◌};
 ghost use Rattle.std.specs.List.{AllByRecursion};
 ghost use Rattle.std.specs.Option.{option_copied, option_map_or};
 ghost use Rattle.house_rows.specs.Changed.{is_item, new_item, with_close, with_purchase, with_settlement, with_standing};
@@ -65,7 +68,8 @@ impl Model for Items {
 
     ghost view = { λ t. t.rows.items };
 
-    ghost invariant = { λ t. IsIndexed t.rows.items (number_at t.lots) (numbers_at t.categories) (numbers_at t.sellers) (numbers_at t.purchases) (has_end t.ends) };
+    ghost invariant = { λ t. IsIndexed t.rows.items (number_at t.lots) (numbers_at t.categories)
+        (numbers_at t.sellers) (numbers_at t.purchases) (has_end t.ends) };
 }
 
 impl Items {
@@ -167,7 +171,8 @@ impl Items {
     /// The numbers of a member's own items.
     pub fn sold_by(&self, member: u64) -> &[u32]
         ensures rising { IsRising result.now }
-        ensures complete { HasAll (λ (row : ItemRow). row.item.terms.item) (λ row. row.item.terms.seller == member) result.now self.now }
+        ensures complete { HasAll (λ (row : ItemRow). row.item.terms.item)
+            (λ row. row.item.terms.seller == member) result.now self.now }
     {
         numbers_of(&self.sellers, member)
     }
@@ -240,7 +245,9 @@ impl Items {
         category: u64,
         from: u64,
     ) -> Result<Vec<Item>, KeepFault>
-        ensures value { IfOk result (λ v. v.items ≡ take most_shown (filter (λ it. (it.terms.category == category) && nat_le from it.terms.item)
+        ensures value { IfOk result (λ v. v.items
+            ≡ take most_shown (filter (λ it. (it.terms.category == category)
+            && nat_le from it.terms.item)
             (map (λ (row : ItemRow). row.item) self.now))) }
         ensures memory { IfErr result (λ e. e ≡ fault.Memory) }
     {
@@ -298,9 +305,11 @@ impl Items {
         member: u64,
         bid_on: &[u32],
     ) -> Result<Vec<Sold>, KeepFault>
-        requires complete { AllByRecursion (λ row. row.standing.leader ≡ Some member → is_among bid_on.now (number_of row) ≡ true) self.now }
+        requires complete { AllByRecursion (λ row. row.standing.leader ≡ Some member
+            → is_among bid_on.now (number_of row) ≡ true) self.now }
         // What was sold has a buyer, so that no result has a sale to nobody.
-        requires led { AllByRecursion (λ row. was_sold row.item.terms.state ≡ true → is_some row.item.terms.leader ≡ true) self.now }
+        requires led { AllByRecursion (λ row. was_sold row.item.terms.state ≡ true
+            → is_some row.item.terms.leader ≡ true) self.now }
         ensures value { (t : Tables) → t.items ≡ self.now → IfOk result (λ v. v.items ≡ sales_to t member) }
         ensures memory { IfErr result (λ e. e ≡ fault.Memory) }
     {

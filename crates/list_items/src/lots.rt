@@ -34,7 +34,9 @@ pub(crate) fn add_lot(
     lot: &Text,
     number: u32,
 ) -> Result<(), KeepFault>
-    ensures ok { OnOk result ((s : ℕ) (l : List ℕ) → number_at sellers.new s l ≡ (if (seller == s) && same_text lot.now l then Some number else number_at sellers.old s l)) }
+    ensures ok { OnOk result ((s : ℕ) (l : List ℕ)
+        → number_at sellers.new s l ≡ (if (seller == s) && same_text lot.now l then Some number
+        else number_at sellers.old s l)) }
     ensures err { OnErr result ((s : ℕ) (l : List ℕ) → number_at sellers.new s l ≡ number_at sellers.old s l) }
     ensures free { OnOk result (number_at sellers.old seller lot.now ≡ None) }
 {
@@ -54,7 +56,9 @@ fn add_first(
     number: u32,
 ) -> Result<(), KeepFault>
     requires new { (l : List ℕ) → number_at sellers.old seller l ≡ None }
-    ensures ok { OnOk result ((s : ℕ) (l : List ℕ) → number_at sellers.new s l ≡ (if (seller == s) && same_text lot.now l then Some number else number_at sellers.old s l)) }
+    ensures ok { OnOk result ((s : ℕ) (l : List ℕ)
+        → number_at sellers.new s l ≡ (if (seller == s) && same_text lot.now l then Some number
+        else number_at sellers.old s l)) }
     ensures err { OnErr result ((s : ℕ) (l : List ℕ) → number_at sellers.new s l ≡ number_at sellers.old s l) }
 {
     let mut lots = HashMap::with_hasher(alloc, keys);
@@ -67,7 +71,9 @@ fn add_first(
 
 // One more lot of a seller.
 fn insert_lot(lots: &mut Lots, lot: &Text, number: u32) -> Result<(), KeepFault>
-    ensures ok { OnOk result ((l : List ℕ) → get_by_shared lots.new l ≡ (if same_text lot.now l then Some number else get_by_shared lots.old l)) }
+    ensures ok { OnOk result ((l : List ℕ)
+        → get_by_shared lots.new l ≡ (if same_text lot.now l then Some number
+        else get_by_shared lots.old l)) }
     ensures err { OnErr result ((l : List ℕ) → get_by_shared lots.new l ≡ get_by_shared lots.old l) }
     ensures free { OnOk result (get_by_shared lots.old lot.now ≡ None) }
 {

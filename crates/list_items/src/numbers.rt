@@ -23,7 +23,9 @@ pub(crate) fn merge(
     third: &[u32],
 ) -> Result<Vec<u32>, KeepFault>
     ensures rising { IfOk result (λ v. IsRising v.items) }
-    ensures same { IfOk result (λ v. (n : ℕ) → is_among v.items n ≡ (is_among first.now n || (is_among second.now n || is_among third.now n))) }
+    ensures same { IfOk result (λ v. (n : ℕ)
+        → is_among v.items n ≡ (is_among first.now n
+        || (is_among second.now n || is_among third.now n))) }
     ensures memory { IfErr result (λ e. e ≡ fault.Memory) }
 {
     let mut numbers = Vec::new(alloc);

@@ -1,5 +1,6 @@
 //! The index by which a row is found by its name, and the place of a number.
-ghost use Rattle.std.specs.Prelude.{if◌then◌else◌, ◌≡◌, ◌<◌, ◌-◌, ◌^◌, ◌++◌, ◌∷◌, [], ◌==◌, ℕ, List, Some, None, length, slice_get, IfErr, OnOk, OnErr};
+ghost use Rattle.std.specs.Prelude.{if◌then◌else◌, ◌≡◌, ◌<◌, ◌-◌, ◌^◌, ◌++◌, ◌∷◌, [], ◌==◌, ℕ};
+ghost use Rattle.std.specs.Prelude.{List, Some, None, length, slice_get, IfErr, OnOk, OnErr};
 ghost use Rattle.std.specs.Option.{option_copied};
 ghost use Rattle.house_rows.specs.Text.{same_text};
 ghost use Rattle.list_people.specs.Named.{fault_of, place_in};

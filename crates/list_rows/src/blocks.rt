@@ -112,7 +112,9 @@ pub fn cut<R: Keyed + Drop>(blocks: &mut Vec<Vec<R>>, wanted: RowKey)
 pub fn update<R: Keyed, C: Changes<R> + Drop>(blocks: &mut Vec<Vec<R>>, wanted: RowKey, change: C)
     requires blocked { IsBlocked R.key blocks.old.items }
     requires keeps { (row : R) → R.key (C.changed change row) ≡ R.key row }
-    ensures rows { rows_of blocks.new.items ≡ map (λ row. if same_key (R.key row) wanted then C.changed change row else row) (rows_of blocks.old.items) }
+    ensures rows { rows_of blocks.new.items
+        ≡ map (λ row. if same_key (R.key row) wanted then C.changed change row else row)
+        (rows_of blocks.old.items) }
     ensures blocked { IsBlocked R.key blocks.new.items }
 {
     let number = wanted.first() as usize;

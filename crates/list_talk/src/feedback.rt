@@ -1,5 +1,6 @@
 //! Feedback, by item and giver.
-ghost use Rattle.std.specs.Prelude.{◌≡◌, ◌==◌, ◌&&◌, ◌<◌, ℕ, [], false, nat_le, filter, take, slice_index_or, vec_len, IfOk, IfErr, OnOk, OnErr};
+ghost use Rattle.std.specs.Prelude.{◌≡◌, ◌==◌, ◌&&◌, ◌<◌, ℕ, [], false, nat_le, filter, take};
+ghost use Rattle.std.specs.Prelude.{slice_index_or, vec_len, IfOk, IfErr, OnOk, OnErr};
 ghost use Rattle.std.specs.List.{list_any};
 ghost use Rattle.house_rows.specs.History.{put_by};
 ghost use Rattle.house_rows.specs.Limits.{most_shown};
@@ -79,7 +80,8 @@ impl FeedbackTable {
         member: u64,
         from: u64,
     ) -> Result<Vec<Feedback>, KeepFault>
-        ensures value { IfOk result (λ v. v.items ≡ take most_shown (filter (λ f. (f.to == member) && nat_le from f.item) self.now)) }
+        ensures value { IfOk result (λ v. v.items
+            ≡ take most_shown (filter (λ f. (f.to == member) && nat_le from f.item) self.now)) }
         ensures memory { IfErr result (λ e. e ≡ fault.Memory) }
     {
         let mut found = Vec::new(alloc);

@@ -1,5 +1,6 @@
 //! Questions and their answers, by item, asker and number.
-ghost use Rattle.std.specs.Prelude.{◌≡◌, ◌==◌, ◌&&◌, ⊤, ℕ, Bool, true, [], Some, None, is_some, nat_le, not, filter, find, map, take, IfOk, IfErr};
+ghost use Rattle.std.specs.Prelude.{◌≡◌, ◌==◌, ◌&&◌, ⊤, ℕ, Bool, true, [], Some, None, is_some};
+ghost use Rattle.std.specs.Prelude.{nat_le, not, filter, find, map, take, IfOk, IfErr};
 ghost use Rattle.std.specs.List.{AllByRecursion, list_any};
 ghost use Rattle.std.specs.Option.{option_copied};
 ghost use Rattle.house_rows.specs.Changed.{question_key, with_answer};
@@ -108,7 +109,8 @@ impl Questions {
         member: u64,
         from: u64,
     ) -> Result<Vec<Question>, KeepFault>
-        ensures value { IfOk result (λ v. v.items ≡ take most_shown (filter (λ q. (q.asker == member) && nat_le from q.item) self.now)) }
+        ensures value { IfOk result (λ v. v.items
+            ≡ take most_shown (filter (λ q. (q.asker == member) && nat_le from q.item) self.now)) }
         ensures memory { IfErr result (λ e. e ≡ fault.Memory) }
     {
         let mut found = Vec::new(alloc);

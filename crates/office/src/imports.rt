@@ -1,5 +1,6 @@
 //! Lots listed from a file.
-ghost use Rattle.std.specs.Prelude.{◌≡◌, [], ◌∷◌, ◌++◌, ◌↔◌, ◌+◌, ◌<◌, ℕ, List, Some, false, true, length, IfErr, IfOk, IsErrOf, IsOk, OnOk, is_some};
+ghost use Rattle.std.specs.Prelude.{◌≡◌, [], ◌∷◌, ◌++◌, ◌↔◌, ◌+◌, ◌<◌, ℕ, List, Some, false, true};
+ghost use Rattle.std.specs.Prelude.{length, IfErr, IfOk, IsErrOf, IsOk, OnOk, is_some};
 ghost use Rattle.std.specs.Io.KnownBytes.{Appends};
 ghost use Rattle.csv.specs.Records.{fields_of};
 ghost use Rattle.house_rows.specs.Answers.{Reads};
@@ -9,7 +10,8 @@ ghost use Rattle.site.specs.Replies.{zone_of};
 ghost use Rattle.site.specs.Histories.{Steps};
 ghost use Rattle.steps.specs.Reading.{HasRead, records_of};
 ghost use Rattle.office.specs.Faults.{IsLookUpFault};
-ghost use Rattle.office.specs.Imports.{EndsAtLot, EndsAtRow, HasEnded, HasListed, HasOrdered, IsCut, IsDone, IsRow, IsReported, UnlessWrite, keep_of};
+ghost use Rattle.office.specs.Imports.{EndsAtLot, EndsAtRow, HasEnded, HasListed, HasOrdered};
+ghost use Rattle.office.specs.Imports.{IsCut, IsDone, IsRow, IsReported, UnlessWrite, keep_of};
 ghost use Rattle.office.specs.Lines.{fault_line, range_line, report_line, totals_line};
 ghost use Rattle.office.specs.Listings.{IsListable};
 ghost use Rattle.office.specs.Lots.{head};

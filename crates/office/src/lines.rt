@@ -1,7 +1,8 @@
 //! The lines that an import prints.
 ghost use Rattle.std.specs.Prelude.{◌≡◌, ◌≤◌, IfErr, OnOk, drop, length};
 ghost use Rattle.std.specs.Io.KnownBytes.{Appends};
-ghost use Rattle.office.specs.Lines.{before_byte, fault_line, from_byte, item_in, name_in, range_line, row_line, report_line, totals_line};
+ghost use Rattle.office.specs.Lines.{before_byte, fault_line, from_byte, item_in, name_in};
+ghost use Rattle.office.specs.Lines.{range_line, row_line, report_line, totals_line};
 
 use crate::column::Column;
 use crate::fault::ImportFault;
@@ -43,18 +44,21 @@ fn without_first(text: &[u8], count: usize) -> &[u8]
     }
 }
 
+// What a JSON object begins with.
+const OPENING: u8 = b'{';
+
 // The number of the item in `{"item":2}`.
 fn item(reply: &[u8]) -> &[u8]
     ensures { result.now ≡ item_in reply.now }
 {
-    before_byte(without_first(from_byte(reply, b'{'), 8), b'}')
+    before_byte(without_first(from_byte(reply, OPENING), 8), b'}')
 }
 
 // The name in `{"error":"Range","number":20}`.
 fn name(reply: &[u8]) -> &[u8]
     ensures { result.now ≡ name_in reply.now }
 {
-    before_byte(without_first(from_byte(reply, b'{'), 10), b'"')
+    before_byte(without_first(from_byte(reply, OPENING), 10), b'"')
 }
 
 // Writes a line about a row: a word, and what is reported of it.

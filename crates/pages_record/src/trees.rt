@@ -5,7 +5,10 @@ ghost use Rattle.serde_json.specs.Data.{string};
 ghost use Rattle.serde_json.specs.View.{members_view, view};
 ghost use Rattle.pages_json.specs.Words.{put_all, whole};
 ghost use Rattle.pages_record.specs.Promises.{GrowsPart, GrowsRecord, GrowsTree};
-ghost use Rattle.pages_record.specs.Record.{back_by, bands_by, categories_by, clock_by, editions_by, feedback_by, front_by, items_by, members_by, middle_by, questions_by, record_by, settings_by};
+ghost use Rattle.pages_record.specs.Record.{back_by, bands_by, categories_by, clock_by};
+ghost use Rattle.pages_record.specs.Record.{editions_by, feedback_by, front_by, items_by};
+ghost use Rattle.pages_record.specs.Record.{members_by, middle_by, questions_by, record_by};
+ghost use Rattle.pages_record.specs.Record.{settings_by};
 
 use crate::editions::{AsEditions, numbers_to, rows_of};
 use house_rows::{Keep, Settings};

@@ -2,7 +2,9 @@
 ghost use Rattle.std.specs.Prelude.{◌≡◌, IsTrue, map};
 ghost use Rattle.pages_json.specs.Fields.{are_keys, member_of};
 ghost use Rattle.pages_json.specs.Words.{AreInOrder, object_of};
-ghost use Rattle.pages_text.specs.Trees.{band_tree, category_tree, feedback_tree, member_tree, own_bid_tree, own_reserve_tree, question_tree, rating_value};
+ghost use Rattle.pages_text.specs.Trees.{band_tree, category_tree, feedback_tree, member_tree};
+ghost use Rattle.pages_text.specs.Trees.{own_bid_tree, own_reserve_tree, question_tree};
+ghost use Rattle.pages_text.specs.Trees.{rating_value};
 
 use house_rows::{Category, Feedback, Member, OwnBid, OwnReserve, Question, Rating, Text};
 use pages_json::{Field, Shows, key, put_object};

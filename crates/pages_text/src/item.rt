@@ -211,7 +211,9 @@ impl Shows<Item> for ByEditions<'_> {
     ghost use Rattle.house_rows.specs.Items.{shown};
     ghost use Rattle.pages_text.specs.Trees.{item_tree};
 
-    ghost tree = { λ by it. item_tree (shown (edition_in by.editions.now it.terms.item) (bands_in by.editions.now it.terms.item) it) };
+    ghost tree = { λ by it. item_tree
+        (shown (edition_in by.editions.now it.terms.item)
+        (bands_in by.editions.now it.terms.item) it) };
 
     fn put(&self, alloc: Global, out: &mut Vec<u8>, item: &Item) -> Result<(), AllocError> {
         let edition = self.editions.edition_of(u64::from(item.terms.item));

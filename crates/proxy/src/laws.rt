@@ -8,7 +8,13 @@ ghost use Rattle.proxy.specs.Rank.{RanksFirst};
 ghost use Rattle.proxy.specs.Accepted.{AreAccepted};
 ghost use Rattle.proxy.specs.Rows.{is_standing};
 ghost use Rattle.proxy.specs.Surplus.{DifferInTop, with_top};
-ghost use Rattle.proxy.specs.WorkedRows.{EqualMaximumKeepsTheEarlierLeader, FirstBidTakesTheStart, GreatRaisePaysOneStepOver, HigherBidPaysOneStepOver, LowBidIsRefused, MetReserveIsThePrice, RaiseOverTheReserve, RaiseToTheReserve, SameMaximumIsRefused, SmallRaisePaysItsMaximum, StepBeginsAtItsBand, UnmetReserveLeavesThePrice, UnmetReserveLeavesTheStart};
+ghost use Rattle.proxy.specs.WorkedRows.{EqualMaximumKeepsTheEarlierLeader, FirstBidTakesTheStart};
+ghost use Rattle.proxy.specs.WorkedRows.{GreatRaisePaysOneStepOver, HigherBidPaysOneStepOver};
+ghost use Rattle.proxy.specs.WorkedRows.{LowBidIsRefused, MetReserveIsThePrice};
+ghost use Rattle.proxy.specs.WorkedRows.{RaiseOverTheReserve, RaiseToTheReserve};
+ghost use Rattle.proxy.specs.WorkedRows.{SameMaximumIsRefused, SmallRaisePaysItsMaximum};
+ghost use Rattle.proxy.specs.WorkedRows.{StepBeginsAtItsBand, UnmetReserveLeavesThePrice};
+ghost use Rattle.proxy.specs.WorkedRows.{UnmetReserveLeavesTheStart};
 
 /// The leader is the one bidder whom every other ranks below: by a smaller maximum, or by the
 /// same one later.

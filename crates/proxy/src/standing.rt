@@ -1,5 +1,6 @@
 //! The standing of one item, kept from bid to bid.
-ghost use Rattle.std.specs.Prelude.{if◌then◌else◌, ◌≡◌, ◌==◌, ◌≤◌, ◌<◌, List, [], length, IfSome, is_some, OnOk, OnErr, MatchResult};
+ghost use Rattle.std.specs.Prelude.{if◌then◌else◌, ◌≡◌, ◌==◌, ◌≤◌, ◌<◌, List, [], length, IfSome};
+ghost use Rattle.std.specs.Prelude.{is_some, OnOk, OnErr, MatchResult};
 ghost use Rattle.steps.specs.Table.{Band};
 ghost use Rattle.proxy.specs.declared.bid.Bid.{Bid as TheBid};
 ghost use Rattle.proxy.specs.Bids.{floor, met_by, one_more, price_by_bids, refusal, standing_of, with_reserve};
@@ -35,9 +36,25 @@ impl Model for Standing {
 
     ghost Value = { Kept };
 
-    ghost view = { λ s. record { start = s.start; reserve = s.reserve; price = s.price; leader = s.leader; top = s.top; second = s.second; count = s.count } };
+    ghost view = { λ s. record {
+      start = s.start;
+      reserve = s.reserve;
+      price = s.price;
+      leader = s.leader;
+      top = s.top;
+      second = s.second;
+      count = s.count;
+    } };
 
-    ghost inverse = { λ k. record { start = k.start; reserve = k.reserve; price = k.price; leader = k.leader; top = k.top; second = k.second; count = k.count } };
+    ghost inverse = { λ k. record {
+      start = k.start;
+      reserve = k.reserve;
+      price = k.price;
+      leader = k.leader;
+      top = k.top;
+      second = k.second;
+      count = k.count;
+    } };
 }
 
 // The price against the second: one step over it, but at most the top.
@@ -129,8 +146,18 @@ impl Standing {
         second: Option<Cents>,
         count: u32,
     ) -> Option<Standing>
-        ensures fits { is_some result ≡ is_shape bands.now (record { start = start; reserve = reserve }) price count leader top second }
-        ensures value { IfSome result (λ s. s ≡ record { start = start; reserve = reserve; price = price; leader = leader; top = top; second = second; count = count }) }
+        ensures fits { is_some result ≡ is_shape bands.now
+            (record { start = start; reserve = reserve }) price count leader top second }
+        ensures value { IfSome result (λ s. s
+            ≡ record {
+              start = start;
+              reserve = reserve;
+              price = price;
+              leader = leader;
+              top = top;
+              second = second;
+              count = count;
+            }) }
     {
         let fits = match (leader, top, second) {
             (None, None, None) => count == 0 && price == start,

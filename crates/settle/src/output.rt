@@ -1,7 +1,8 @@
 //! Statements written into sinks, a record at a time.
 ghost use Rattle.std.specs.Prelude.{◌≡◌, IfOk, false, string_bytes};
 ghost use Rattle.cents.specs.Spelling.{amount_text};
-ghost use Rattle.settle.specs.Text.{fields_of, head, record_text, records_text, statement_csv, statement_text, table_text, totals_text};
+ghost use Rattle.settle.specs.Text.{fields_of, head, record_text, records_text, statement_csv};
+ghost use Rattle.settle.specs.Text.{statement_text, table_text, totals_text};
 ghost use Rattle.settle.specs.Written.{IsWritten};
 
 use crate::columns::{Columns, Form};

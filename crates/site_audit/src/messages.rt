@@ -1,5 +1,6 @@
 //! A list of messages, read from a stream.
-ghost use Rattle.std.specs.Prelude.{◌≡◌, ◌≤◌, ◌<◌, ◌++◌, ◌∷◌, [], ℕ, List, IfErr, IfOk, IfSome, MatchResult, OnOk, map, take, length};
+ghost use Rattle.std.specs.Prelude.{◌≡◌, ◌≤◌, ◌<◌, ◌++◌, ◌∷◌, [], ℕ, List, IfErr, IfOk, IfSome};
+ghost use Rattle.std.specs.Prelude.{MatchResult, OnOk, map, take, length};
 ghost use Rattle.std.specs.Io.KnownBytes.{Consumes, IsAtEnd};
 ghost use Rattle.site_audit.specs.Messages.{IsCutInto, IsNoList, IsStopped};
 ghost use Rattle.site_audit.specs.declared.messages.MessagesFault.TheVariants.{Memory, Read};

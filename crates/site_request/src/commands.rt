@@ -4,7 +4,9 @@ ghost use Rattle.serde_json.specs.Data.{no_members};
 ghost use Rattle.site_bodies.specs.Body.{fields_of};
 ghost use Rattle.site_request.specs.Fields.{Gives};
 ghost use Rattle.site_request.specs.declared.command_path.CommandPath.TheVariants as the_path;
-ghost use Rattle.site_request.specs.Commands.{answer_in, bid_in, category_in, command_of, feedback_in, fields_in, has_fields, listing_in, question_in, register_in, text_in};
+ghost use Rattle.site_request.specs.Commands.{answer_in, bid_in, category_in, command_of};
+ghost use Rattle.site_request.specs.Commands.{feedback_in, fields_in, has_fields, listing_in};
+ghost use Rattle.site_request.specs.Commands.{question_in, register_in, text_in};
 
 use crate::command_path::CommandPath;
 use crate::field::Field;

@@ -1,5 +1,6 @@
 //! Serving a stream.
-ghost use Rattle.std.specs.Prelude.{◌≡◌, ◌⊎◌, ◌↔◌, ◌++◌, ◌<◌, ℕ, List, Ok, Err, true, false, length, IfOk, IfErr, IfSome, IsErr, OnOk, OnErr};
+ghost use Rattle.std.specs.Prelude.{◌≡◌, ◌⊎◌, ◌↔◌, ◌++◌, ◌<◌, ℕ, List, Ok, Err, true, false};
+ghost use Rattle.std.specs.Prelude.{length, IfOk, IfErr, IfSome, IsErr, OnOk, OnErr};
 ghost use Rattle.std.specs.Io.KnownBytes.{Appends, Consumes, IsAtEnd, Keeps};
 ghost use Rattle.device.specs.Given.{AppendsBeginning};
 ghost use Rattle.site.specs.Replies.{zone_of};

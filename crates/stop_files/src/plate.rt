@@ -1,5 +1,6 @@
 //! A file in memory that stops at a call.
-ghost use Rattle.std.specs.Prelude.{◌≡◌, ◌<◌, ◌≤◌, ◌+◌, ◌^◌, ◌↔◌, ◌⊎◌, ◌++◌, length, take, drop, slice_index_or, true, IfOk, OnOk, OnErr, IsErr};
+ghost use Rattle.std.specs.Prelude.{◌≡◌, ◌<◌, ◌≤◌, ◌+◌, ◌^◌, ◌↔◌, ◌⊎◌, ◌++◌, length, take, drop};
+ghost use Rattle.std.specs.Prelude.{slice_index_or, true, IfOk, OnOk, OnErr, IsErr};
 ghost use Rattle.sqlite_disk.specs.Disk.{Torn};
 ghost use Rattle.sqlite_disk.specs.Events.{agrees, overlaid, padded};
 ghost use Rattle.stop_files.specs.Left.{IsLeft, IsTorn, byte_left};

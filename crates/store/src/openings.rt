@@ -9,7 +9,9 @@ ghost use Rattle.house_rows.specs.declared.fault.KeepFault.TheVariants.{Damaged,
 ghost use Rattle.store_rows.specs.Fitting.{HouseRowFits};
 ghost use Rattle.store_rows.specs.Schema.{no_schema};
 ghost use Rattle.store_rows.specs.Tables.{house_row_in, tables_in};
-ghost use Rattle.store_house.specs.Opening.{AreNumbered, AreSet, Follows, FollowsOrGrows, IsBackOrNew, IsSoundFirst, IsSoundHouse, Upgrades, first_tables_in};
+ghost use Rattle.store_house.specs.Opening.{AreNumbered, AreSet, Follows, FollowsOrGrows};
+ghost use Rattle.store_house.specs.Opening.{IsBackOrNew, IsSoundFirst, IsSoundHouse, Upgrades};
+ghost use Rattle.store_house.specs.Opening.{first_tables_in};
 ghost use Rattle.store_open.specs.Opened.{IsOpenedHouse};
 ghost use Rattle.store.specs.Kept.{IsHonest, MayLeave, content};
 ghost use Rattle.store.specs.Opening.{Leaves, LeavesMade, LeavesStore, LeavesUpgraded};

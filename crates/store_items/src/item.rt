@@ -82,7 +82,9 @@ pub(crate) fn put_item<S: Alter>(
     let buy_now = stored_maybe_cents(item.buy_now);
     run(
         tx,
-        "INSERT INTO item (id, seller, category, lot, title, body, start, buy_now, ending, state, closed, price, leader, top, second, count) VALUES (?1, ?2, ?3, ?4, ?5, ?6, ?7, ?8, ?9, 0, NULL, ?7, NULL, NULL, NULL, 0)",
+        "INSERT INTO item (id, seller, category, lot, title, body, start, buy_now, ending, state, \
+        closed, price, leader, top, second, count) VALUES (?1, ?2, ?3, ?4, ?5, ?6, ?7, ?8, ?9, 0, \
+        NULL, ?7, NULL, NULL, NULL, 0)",
         params![
             number, seller, category, lot, title, text, start, buy_now, end,
         ],

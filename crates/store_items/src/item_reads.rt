@@ -35,7 +35,8 @@ pub fn item_at<S: Alter>(
 {
     let rows = rows_shown(
         conn,
-        "SELECT id, seller, category, start, buy_now, ending, state, closed, price, leader, count, lot, title, body, top, second FROM item WHERE id = ?1 ORDER BY id",
+        "SELECT id, seller, category, start, buy_now, ending, state, closed, price, leader, \
+        count, lot, title, body, top, second FROM item WHERE id = ?1 ORDER BY id",
         params![number],
     )?;
     first_item(rules, &rows)
@@ -59,7 +60,8 @@ pub fn auction_at<S: Alter>(
 {
     let rows = rows_shown(
         conn,
-        "SELECT id, seller, category, start, buy_now, ending, state, closed, price, leader, count, top, second FROM item WHERE id = ?1 ORDER BY id",
+        "SELECT id, seller, category, start, buy_now, ending, state, closed, price, leader, \
+        count, top, second FROM item WHERE id = ?1 ORDER BY id",
         params![number],
     )?;
     first_auction(rules, &rows)
@@ -121,7 +123,8 @@ pub fn all_items<S: Alter>(
 {
     let rows = rows_shown(
         conn,
-        "SELECT id, seller, category, start, buy_now, ending, state, closed, price, leader, count, lot, title, body, top, second FROM item ORDER BY id",
+        "SELECT id, seller, category, start, buy_now, ending, state, closed, price, leader, \
+        count, lot, title, body, top, second FROM item ORDER BY id",
         &[],
     )?;
     item_list(alloc, rules, &rows)

@@ -111,7 +111,8 @@ pub fn reserves_of<S: Alter>(
 {
     let rows = rows_shown(
         conn,
-        "SELECT id, seller, category, start, buy_now, ending, state, closed, price, leader, count, top, second FROM item WHERE seller = ?1 ORDER BY id",
+        "SELECT id, seller, category, start, buy_now, ending, state, closed, price, leader, \
+        count, top, second FROM item WHERE seller = ?1 ORDER BY id",
         params![member],
     )?;
     first_reserves(alloc, rules, &rows, from)

@@ -44,7 +44,9 @@ fn items_from<S: Alter>(
         conn,
         "SELECT id FROM item WHERE category = ?1 AND id < 0 ORDER BY id",
         params![category],
-        "SELECT id, seller, category, start, buy_now, ending, state, closed, price, leader, count, lot, title, body, top, second FROM item WHERE category = ?1 AND id >= ?2 ORDER BY id",
+        "SELECT id, seller, category, start, buy_now, ending, state, closed, price, leader, \
+        count, lot, title, body, top, second FROM item WHERE category = ?1 AND id >= ?2 \
+        ORDER BY id",
         params![category, from],
     )?;
     item_list(alloc, rules, &rows)

@@ -36,7 +36,8 @@ pub fn terms_of_seller<S: Alter>(
 {
     let rows = rows_shown(
         conn,
-        "SELECT id, seller, category, start, buy_now, ending, state, closed, price, leader, count, top, second FROM item WHERE seller = ?1 ORDER BY id",
+        "SELECT id, seller, category, start, buy_now, ending, state, closed, price, leader, \
+        count, top, second FROM item WHERE seller = ?1 ORDER BY id",
         params![seller],
     )?;
     terms_list(alloc, rules, &rows)
@@ -60,7 +61,8 @@ pub(crate) fn terms_led_by<S: Alter>(
 {
     let rows = rows_shown(
         conn,
-        "SELECT id, seller, category, start, buy_now, ending, state, closed, price, leader, count, top, second FROM item WHERE leader = ?1 ORDER BY id",
+        "SELECT id, seller, category, start, buy_now, ending, state, closed, price, leader, \
+        count, top, second FROM item WHERE leader = ?1 ORDER BY id",
         params![member],
     )?;
     terms_list(alloc, rules, &rows)
@@ -86,7 +88,8 @@ pub(crate) fn due_terms<S: Alter>(
     // An end below 0 is none of ours, so it never comes.
     let rows = rows_shown(
         conn,
-        "SELECT id, seller, category, start, buy_now, ending, state, closed, price, leader, count, top, second FROM item WHERE state = 0 AND ending >= 0 AND ending <= ?1 ORDER BY id",
+        "SELECT id, seller, category, start, buy_now, ending, state, closed, price, leader, \
+        count, top, second FROM item WHERE state = 0 AND ending >= 0 AND ending <= ?1 ORDER BY id",
         params![moment],
     )?;
     terms_list(alloc, rules, &rows)

@@ -12,7 +12,10 @@ ghost use Rattle.store_rows.specs.House.{IsFirstHouse, IsInside, Serves};
 ghost use Rattle.store_rows.specs.Frames.{Finds};
 ghost use Rattle.store_rows.specs.Tables.{tables_in};
 ghost use Rattle.store_open.specs.Opened.{IsOpenedHouse};
-ghost use Rattle.store_house.specs.Opening.{AreNumbered, Follows, FollowsOrGrows, HasEditions, HasReserves, HasSettings, HaveNumbers, IsFirstSetUp, IsSoundFirst, IsSoundHouse, Upgraded, Upgrades, first_tables_in, version_in};
+ghost use Rattle.store_house.specs.Opening.{AreNumbered, Follows, FollowsOrGrows, HasEditions};
+ghost use Rattle.store_house.specs.Opening.{HasReserves, HasSettings, HaveNumbers, IsFirstSetUp};
+ghost use Rattle.store_house.specs.Opening.{IsSoundFirst, IsSoundHouse, Upgraded, Upgrades};
+ghost use Rattle.store_house.specs.Opening.{first_tables_in, version_in};
 
 use crate::house::Opened;
 use crate::open::{open_house, read_house};

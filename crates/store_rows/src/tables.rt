@@ -26,23 +26,32 @@ fn step_text(step: usize) -> &'static str
     ensures { result.now ≡ making_at step }
 {
     match step {
-        0 =>
-            "CREATE TABLE house (id INTEGER PRIMARY KEY, version INTEGER NOT NULL, clock INTEGER NOT NULL, rate INTEGER NOT NULL, zone TEXT NOT NULL) STRICT",
+        0 => "CREATE TABLE house (id INTEGER PRIMARY KEY, version INTEGER NOT NULL, \
+            clock INTEGER NOT NULL, rate INTEGER NOT NULL, zone TEXT NOT NULL) STRICT",
         1 => "CREATE TABLE band (at INTEGER PRIMARY KEY, step INTEGER NOT NULL) STRICT",
         2 =>
             "CREATE TABLE member (id INTEGER PRIMARY KEY, name TEXT NOT NULL, UNIQUE (name)) STRICT",
         3 =>
             "CREATE TABLE category (id INTEGER PRIMARY KEY, name TEXT NOT NULL, UNIQUE (name)) STRICT",
-        4 =>
-            "CREATE TABLE item (id INTEGER PRIMARY KEY, seller INTEGER NOT NULL REFERENCES member (id), category INTEGER NOT NULL REFERENCES category (id), lot TEXT NOT NULL, title TEXT NOT NULL, body TEXT NOT NULL, start INTEGER NOT NULL, buy_now INTEGER, ending INTEGER NOT NULL, state INTEGER NOT NULL, closed INTEGER, price INTEGER NOT NULL, leader INTEGER REFERENCES member (id), top INTEGER, second INTEGER, count INTEGER NOT NULL, UNIQUE (seller, lot)) STRICT",
-        5 =>
-            "CREATE TABLE bid (item INTEGER NOT NULL REFERENCES item (id), no INTEGER NOT NULL, member INTEGER NOT NULL REFERENCES member (id), maximum INTEGER NOT NULL, PRIMARY KEY (item, no)) STRICT",
-        6 =>
-            "CREATE TABLE watch (member INTEGER NOT NULL REFERENCES member (id), item INTEGER NOT NULL REFERENCES item (id), PRIMARY KEY (member, item)) STRICT",
-        7 =>
-            "CREATE TABLE question (item INTEGER NOT NULL REFERENCES item (id), asker INTEGER NOT NULL REFERENCES member (id), n INTEGER NOT NULL, body TEXT NOT NULL, answer TEXT, PRIMARY KEY (item, asker, n)) STRICT",
-        8 =>
-            "CREATE TABLE feedback (item INTEGER NOT NULL REFERENCES item (id), giver INTEGER NOT NULL REFERENCES member (id), receiver INTEGER NOT NULL REFERENCES member (id), rating INTEGER NOT NULL, body TEXT NOT NULL, PRIMARY KEY (item, giver)) STRICT",
+        4 => "CREATE TABLE item (id INTEGER PRIMARY KEY, \
+            seller INTEGER NOT NULL REFERENCES member (id), \
+            category INTEGER NOT NULL REFERENCES category (id), lot TEXT NOT NULL, \
+            title TEXT NOT NULL, body TEXT NOT NULL, start INTEGER NOT NULL, buy_now INTEGER, \
+            ending INTEGER NOT NULL, state INTEGER NOT NULL, closed INTEGER, \
+            price INTEGER NOT NULL, leader INTEGER REFERENCES member (id), top INTEGER, \
+            second INTEGER, count INTEGER NOT NULL, UNIQUE (seller, lot)) STRICT",
+        5 => "CREATE TABLE bid (item INTEGER NOT NULL REFERENCES item (id), no INTEGER NOT NULL, \
+            member INTEGER NOT NULL REFERENCES member (id), maximum INTEGER NOT NULL, \
+            PRIMARY KEY (item, no)) STRICT",
+        6 => "CREATE TABLE watch (member INTEGER NOT NULL REFERENCES member (id), \
+            item INTEGER NOT NULL REFERENCES item (id), PRIMARY KEY (member, item)) STRICT",
+        7 => "CREATE TABLE question (item INTEGER NOT NULL REFERENCES item (id), \
+            asker INTEGER NOT NULL REFERENCES member (id), n INTEGER NOT NULL, \
+            body TEXT NOT NULL, answer TEXT, PRIMARY KEY (item, asker, n)) STRICT",
+        8 => "CREATE TABLE feedback (item INTEGER NOT NULL REFERENCES item (id), \
+            giver INTEGER NOT NULL REFERENCES member (id), \
+            receiver INTEGER NOT NULL REFERENCES member (id), rating INTEGER NOT NULL, \
+            body TEXT NOT NULL, PRIMARY KEY (item, giver)) STRICT",
         9 => "CREATE INDEX item_by_category ON item (category, id)",
         10 => "CREATE INDEX item_by_seller ON item (seller, id)",
         11 => "CREATE INDEX item_by_leader ON item (leader, id)",
@@ -53,8 +62,8 @@ fn step_text(step: usize) -> &'static str
         16 =>
             "CREATE TABLE reserve (item INTEGER PRIMARY KEY REFERENCES item (id), amount INTEGER NOT NULL) STRICT",
         17 => "CREATE TABLE edition (edition INTEGER PRIMARY KEY, first INTEGER NOT NULL) STRICT",
-        _ =>
-            "CREATE TABLE later_band (edition INTEGER NOT NULL REFERENCES edition (edition), at INTEGER NOT NULL, step INTEGER NOT NULL, PRIMARY KEY (edition, at)) STRICT",
+        _ => "CREATE TABLE later_band (edition INTEGER NOT NULL REFERENCES edition (edition), \
+            at INTEGER NOT NULL, step INTEGER NOT NULL, PRIMARY KEY (edition, at)) STRICT",
     }
 }
 

@@ -50,7 +50,9 @@ fn given_from<S: Alter>(
         conn,
         "SELECT item, giver, receiver, rating, body FROM feedback WHERE receiver = ?1 AND item >= ?2 ORDER BY item, giver",
         params![member, from],
-        "SELECT item FROM feedback WHERE receiver = ?1 AND item < ?2 AND (item < 0 OR rating < -1 OR rating > 1) ORDER BY item, giver",
+        "SELECT item FROM feedback \
+        WHERE receiver = ?1 AND item < ?2 AND (item < 0 OR rating < -1 OR rating > 1) \
+        ORDER BY item, giver",
         params![member, from],
     )?;
     all_of(alloc, &rows)

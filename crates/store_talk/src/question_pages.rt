@@ -48,7 +48,8 @@ fn published_from<S: Alter>(
     let rows = listed_rows(
         alloc,
         conn,
-        "SELECT item, asker, n, answer, body FROM question WHERE item = ?1 AND answer IS NOT NULL AND asker >= ?2 ORDER BY item, asker, n",
+        "SELECT item, asker, n, answer, body FROM question \
+        WHERE item = ?1 AND answer IS NOT NULL AND asker >= ?2 ORDER BY item, asker, n",
         params![item, from],
         "SELECT asker FROM question WHERE item = ?1 AND answer IS NOT NULL AND asker < 0 ORDER BY item, asker, n",
         params![item],

@@ -13,7 +13,8 @@ use memchr::memchr;
 /// The lines of the fields of a head: those after the line of the request, which has that length
 /// without its end. What is left of that line is its end, in which no field is.
 pub(crate) fn field_lines(head: &[u8], line: usize) -> &[u8]
-    ensures { (h : RequestHead) → IsRequestHead h → head.now ≡ print_request h → line ≡ length (request_line h) → fields_in result.now ≡ fields_of h }
+    ensures { (h : RequestHead) → IsRequestHead h → head.now ≡ print_request h
+        → line ≡ length (request_line h) → fields_in result.now ≡ fields_of h }
 {
     // Empty lines may come before that of the request.
     match head.trim_ascii_start().get(line..) {
