@@ -1,5 +1,5 @@
 -- Members that are written one after the other.
-use Rattle.std.proofs.Common.{◌≡◌, ℕ, List, [], ◌∷◌, ◌++◌, length, take, ap, sym, ◌∙◌, append_assoc}
+use Rattle.std.proofs.Common.{◌≡◌, ℕ, List, [], ◌∷◌, ◌++◌, length, take, ap, sym, ◌∙◌, append_assoc, append-nil}
 use Rattle.serde_json.specs.Data.{Data}
 use Rattle.pages_json.specs.Words.{members_text}
 use Rattle.pages_json.proofs.Texts as texts
@@ -9,8 +9,15 @@ use Rattle.pages_json.proofs.Texts.{members_append}
 pub front_then : (a b c : List ℕ) → take (length a) b ≡ a → take (length b) c ≡ b → take (length a) c ≡ a
 front_then a b c ab bc = texts.front_then a b c ab bc
 
--- one member more
-pub member_more : (ms : List (List ℕ × Data)) (m : List ℕ × Data) (old now next : List ℕ) → now ≡ old ++ members_text ms → next ≡ now ++ members_text (m ∷ [])
-    → next ≡ old ++ members_text (ms ++ m ∷ [])
-member_more ms m old now next so_far more =
-    more ∙ ap (λ t. t ++ members_text (m ∷ [])) so_far ∙ append_assoc old (members_text ms) (members_text (m ∷ [])) ∙ ap (λ t. old ++ t) (sym (members_append ms (m ∷ [])))
+-- a text, and after it members that are appended one at a time
+abbrev pub with_each : List ℕ → List (List ℕ × Data) → List ℕ
+with_each old [] = old
+with_each old (m ∷ ms) = with_each (old ++ members_text (m ∷ [])) ms
+
+-- they are the text of all of them
+pub each_is_all : (ms : List (List ℕ × Data)) (old : List ℕ) → with_each old ms ≡ old ++ members_text ms
+unfolding members_text
+each_is_all [] old = sym (append-nil old)
+each_is_all (m ∷ ms) old =
+    each_is_all ms (old ++ members_text (m ∷ [])) ∙ append_assoc old (members_text (m ∷ [])) (members_text ms)
+    ∙ ap (λ t. old ++ t) (sym (members_append (m ∷ []) ms))

@@ -1,5 +1,5 @@
 -- The tree of everything that is shown. Keys are in byte order.
-use Rattle.std.specs.Prelude.{ℕ, ℤ, pos, negsuc, List, [], ◌∷◌, ◌++◌, Bool, if◌then◌else◌, codes, Option, Some, None}
+use Rattle.std.specs.Prelude.{ℕ, ℤ, pos, negsuc, List, [], ◌∷◌, Bool, if◌then◌else◌, codes, Option, Some, None}
 use Rattle.steps.specs.Table.{Band}
 use Rattle.serde_json.specs.Data.{Data, boolean, string}
 use Rattle.settle.specs.Calendar.{day_text}
@@ -9,7 +9,6 @@ use Rattle.settle.specs.declared.totals.Totals.{Totals}
 use Rattle.settle.specs.declared.zone.Zone.{Zone}
 use Rattle.house_rows.specs.declared.fault.KeepFault.{KeepFault}
 use Rattle.house_rows.specs.declared.fault.KeepFault.TheVariants.{Memory, Store, Damaged}
-use Rattle.house_rows.specs.declared.item.Item.{Item}
 use Rattle.house_rows.specs.declared.item.ItemShown.{ItemShown}
 use Rattle.house_rows.specs.declared.item.OwnBid.{OwnBid}
 use Rattle.house_rows.specs.declared.item.OwnReserve.{OwnReserve}
@@ -32,35 +31,29 @@ use Rattle.pages_json.specs.Words.{array_of, boolean_or_null, integer, object_of
 
 -- ---- entries
 
--- the members of an item with its edition and its floor, in three parts
-abbrev pub item_first : Item → ℕ → List (List ℕ × Data)
-item_first item edition =
-    (codes "buy_now", whole_or_null item.terms.buy_now)
-    ∷ (codes "category", whole item.terms.category)
-    ∷ (codes "closed", whole_or_null item.terms.closed)
-    ∷ (codes "count", whole item.terms.count)
-    ∷ (codes "edition", whole edition) ∷ []
-
-abbrev pub item_middle : Item → Option ℕ → List (List ℕ × Data)
-item_middle item floor =
-    (codes "end", whole item.terms.end)
-    ∷ (codes "floor", whole_or_null floor)
-    ∷ (codes "item", whole item.terms.item)
-    ∷ (codes "leader", whole_or_null item.terms.leader)
-    ∷ (codes "lot", string item.lot)
-    ∷ (codes "met", boolean_or_null item.terms.met) ∷ []
-
-abbrev pub item_last : Item → List (List ℕ × Data)
-item_last item =
-    (codes "price", whole item.terms.price)
-    ∷ (codes "seller", whole item.terms.seller)
-    ∷ (codes "start", whole item.terms.start)
-    ∷ (codes "state", string (state_name item.terms.state))
-    ∷ (codes "text", string item.text)
-    ∷ (codes "title", string item.title) ∷ []
+-- the members of an item with its edition and its floor
+abbrev pub item_members : ItemShown → List (List ℕ × Data)
+item_members it =
+    (codes "buy_now", whole_or_null it.item.terms.buy_now)
+    ∷ (codes "category", whole it.item.terms.category)
+    ∷ (codes "closed", whole_or_null it.item.terms.closed)
+    ∷ (codes "count", whole it.item.terms.count)
+    ∷ (codes "edition", whole it.edition)
+    ∷ (codes "end", whole it.item.terms.end)
+    ∷ (codes "floor", whole_or_null it.floor)
+    ∷ (codes "item", whole it.item.terms.item)
+    ∷ (codes "leader", whole_or_null it.item.terms.leader)
+    ∷ (codes "lot", string it.item.lot)
+    ∷ (codes "met", boolean_or_null it.item.terms.met)
+    ∷ (codes "price", whole it.item.terms.price)
+    ∷ (codes "seller", whole it.item.terms.seller)
+    ∷ (codes "start", whole it.item.terms.start)
+    ∷ (codes "state", string (state_name it.item.terms.state))
+    ∷ (codes "text", string it.item.text)
+    ∷ (codes "title", string it.item.title) ∷ []
 
 abbrev pub item_tree : ItemShown → Data
-item_tree it = object_of (item_first it.item it.edition ++ (item_middle it.item it.floor ++ item_last it.item))
+item_tree it = object_of (item_members it)
 
 -- a question, whose answer is null while it waits
 abbrev pub question_tree : Question → Data

@@ -4,8 +4,8 @@ ghost use Rattle.std.specs.Io.{StartsWith};
 ghost use Rattle.house_rows.specs.Editions.{bands_in};
 ghost use Rattle.house_rows.specs.Items.{floor_of};
 ghost use Rattle.pages_json.specs.Fields.{are_keys, member_of};
-ghost use Rattle.pages_json.specs.Words.{AreInOrder, members_text, object_of, text_of};
-ghost use Rattle.pages_text.specs.Trees.{item_first, item_last, item_middle, item_tree};
+ghost use Rattle.pages_json.specs.Words.{AreInOrder, object_of, text_of};
+ghost use Rattle.pages_text.specs.Trees.{item_tree};
 
 use cents::Cents;
 use house_rows::{Editions, Item, ItemShown, State, Terms};
@@ -24,6 +24,47 @@ pub fn floor(bands: &Bands, terms: &Terms) -> Option<u64>
     Some(floor_of(bands, terms.start, terms.price, terms.count))
 }
 
+// The members of an item in byte order of their keys. Each is written here alone: the macro `$then`
+// is handed all of them, after what stands there as `$with`.
+macro_rules! item_members {
+    ($item:ident, $edition:ident, $floor:ident => $then:ident!($($with:tt)*)) => {
+        $then!($($with)* {
+            "buy_now": Field::Maybe($item.terms.buy_now.map(Cents::value)),
+            "category": Field::Number(u64::from($item.terms.category)),
+            "closed": Field::Maybe($item.terms.closed),
+            "count": Field::Number(u64::from($item.terms.count)),
+            "edition": Field::Number(u64::from($edition)),
+            "end": Field::Number($item.terms.end),
+            "floor": Field::Maybe($floor),
+            "item": Field::Number(u64::from($item.terms.item)),
+            "leader": Field::Maybe($item.terms.leader.map(u64::from)),
+            "lot": Field::Text($item.lot.as_str()),
+            "met": Field::MaybeFlag($item.terms.met),
+            "price": Field::Number($item.terms.price.value()),
+            "seller": Field::Number(u64::from($item.terms.seller)),
+            "start": Field::Number($item.terms.start.value()),
+            "state": Field::Text($item.terms.state.name()),
+            "text": Field::Text($item.text.as_str()),
+            "title": Field::Text($item.title.as_str()),
+        })
+    };
+}
+
+// Makes an array of members.
+macro_rules! fields {
+    ({ $($name:literal: $value:expr,)* }) => {
+        [$((key!($name), $value)),*]
+    };
+}
+
+// Appends members, one at a time: each key and each kind of value is a constant where it is
+// written, and would be looked up in an array of fields.
+macro_rules! put_each {
+    ($alloc:ident, $out:ident { $($name:literal: $value:expr,)* }) => {
+        $(put_member($alloc, $out, key!($name), $value)?;)*
+    };
+}
+
 // The keys of an item with the edition and the floor that are shown of it, and what they have.
 pub(crate) fn item_fields(
     item: &Item,
@@ -35,129 +76,10 @@ pub(crate) fn item_fields(
     ensures order { AreInOrder (map member_of result) }
     ensures keys { IsTrue (are_keys result) }
 {
-    let terms = &item.terms;
-    [
-        (
-            key!("buy_now"),
-            Field::Maybe(terms.buy_now.map(Cents::value)),
-        ),
-        (key!("category"), Field::Number(u64::from(terms.category))),
-        (key!("closed"), Field::Maybe(terms.closed)),
-        (key!("count"), Field::Number(u64::from(terms.count))),
-        (key!("edition"), Field::Number(u64::from(edition))),
-        (key!("end"), Field::Number(terms.end)),
-        (key!("floor"), Field::Maybe(floor)),
-        (key!("item"), Field::Number(u64::from(terms.item))),
-        (key!("leader"), Field::Maybe(terms.leader.map(u64::from))),
-        (key!("lot"), Field::Text(item.lot.as_str())),
-        (key!("met"), Field::MaybeFlag(terms.met)),
-        (key!("price"), Field::Number(terms.price.value())),
-        (key!("seller"), Field::Number(u64::from(terms.seller))),
-        (key!("start"), Field::Number(terms.start.value())),
-        (key!("state"), Field::Text(terms.state.name())),
-        (key!("text"), Field::Text(item.text.as_str())),
-        (key!("title"), Field::Text(item.title.as_str())),
-    ]
+    item_members!(item, edition, floor => fields!())
 }
 
-// Appends the first members of an item.
-#[inline(always)]
-#[tactic(auto, using(crate::proofs::Members::front_then))]
-fn put_first(alloc: Global, out: &mut Vec<u8>, item: &Item, edition: u32) -> Result<(), AllocError>
-    ensures text { OnOk result (out.new.items ≡ out.old.items
-        ++ members_text (item_first item.now edition)) }
-    ensures front { StartsWith out.new.items out.old.items }
-{
-    let terms = &item.terms;
-    let buy_now = terms.buy_now.map(Cents::value);
-    put_member(alloc, out, key!("buy_now"), Field::Maybe(buy_now))?;
-    put_member(
-        alloc,
-        out,
-        key!("category"),
-        Field::Number(u64::from(terms.category)),
-    )?;
-    put_member(alloc, out, key!("closed"), Field::Maybe(terms.closed))?;
-    put_member(
-        alloc,
-        out,
-        key!("count"),
-        Field::Number(u64::from(terms.count)),
-    )?;
-    put_member(
-        alloc,
-        out,
-        key!("edition"),
-        Field::Number(u64::from(edition)),
-    )?;
-    Ok(())
-}
-
-// Appends the members after the first ones.
-#[inline(always)]
-#[tactic(auto, using(crate::proofs::Members::front_then))]
-fn put_middle(
-    alloc: Global,
-    out: &mut Vec<u8>,
-    item: &Item,
-    floor: Option<u64>,
-) -> Result<(), AllocError>
-    ensures text { OnOk result (out.new.items ≡ out.old.items
-        ++ members_text (item_middle item.now floor)) }
-    ensures front { StartsWith out.new.items out.old.items }
-{
-    let terms = &item.terms;
-    let leader = terms.leader.map(u64::from);
-    put_member(alloc, out, key!("end"), Field::Number(terms.end))?;
-    put_member(alloc, out, key!("floor"), Field::Maybe(floor))?;
-    put_member(
-        alloc,
-        out,
-        key!("item"),
-        Field::Number(u64::from(terms.item)),
-    )?;
-    put_member(alloc, out, key!("leader"), Field::Maybe(leader))?;
-    put_member(alloc, out, key!("lot"), Field::Text(item.lot.as_str()))?;
-    put_member(alloc, out, key!("met"), Field::MaybeFlag(terms.met))?;
-    Ok(())
-}
-
-// Appends the last members of an item.
-#[inline(always)]
-#[tactic(auto, using(crate::proofs::Members::front_then))]
-fn put_last(alloc: Global, out: &mut Vec<u8>, item: &Item) -> Result<(), AllocError>
-    ensures text { OnOk result (out.new.items ≡ out.old.items
-        ++ members_text (item_last item.now)) }
-    ensures front { StartsWith out.new.items out.old.items }
-{
-    let terms = &item.terms;
-    let state = terms.state.name();
-    put_member(
-        alloc,
-        out,
-        key!("price"),
-        Field::Number(terms.price.value()),
-    )?;
-    put_member(
-        alloc,
-        out,
-        key!("seller"),
-        Field::Number(u64::from(terms.seller)),
-    )?;
-    put_member(
-        alloc,
-        out,
-        key!("start"),
-        Field::Number(terms.start.value()),
-    )?;
-    put_member(alloc, out, key!("state"), Field::Text(state))?;
-    put_member(alloc, out, key!("text"), Field::Text(item.text.as_str()))?;
-    put_member(alloc, out, key!("title"), Field::Text(item.title.as_str()))?;
-    Ok(())
-}
-
-// Appends an item, a member at a time: each key and each kind of value is a constant where it is
-// written, and would be looked up in an array of fields.
+// Appends an item.
 #[tactic(auto, using(crate::proofs::Members::front_then))]
 fn put_item(
     alloc: Global,
@@ -171,9 +93,7 @@ fn put_item(
     ensures front { StartsWith out.new.items out.old.items }
 {
     let start = out.len();
-    put_first(alloc, out, item, edition)?;
-    put_middle(alloc, out, item, floor)?;
-    put_last(alloc, out, item)?;
+    item_members!(item, edition, floor => put_each!(alloc, out));
     end_object(out, start)?;
     Ok(())
 }
