@@ -7,8 +7,9 @@
 //!
 //! Promised: each fault has its line on standard error and its exit status, and the program ends
 //! with 0 where there is none. Here words become a house, a reader and a writer: `auction_words`
-//! reads what the words say, and a run of `auction_runs` does what they ask for. Read `program`
-//! first, then a file of one subcommand or two, such as `service`, and then `houses` and `files`.
+//! reads what the words say, `tcp` brings connections, and a run of `auction_runs` does what they
+//! ask for. Read `program` first, then a file of one subcommand or two, such as `service`, and then
+//! `houses` and `files`.
 #![tactic(auto)]
 
 mod accounts;
@@ -17,14 +18,12 @@ mod copies;
 mod files;
 mod houses;
 mod input;
-mod listener;
 mod lots;
 mod program;
 mod remains;
 mod replay;
 mod service;
 mod stores;
-mod stream;
 mod upkeep;
 
 use std::process::ExitCode;

@@ -7,7 +7,6 @@ use crate::accounts::statement_file;
 use crate::audit::{Comparison, compare};
 use crate::files::{DiskInFile, Place};
 use crate::houses::{KeepInFile, KeepInMemory};
-use crate::listener::{Listen, Listener};
 use crate::lots::import_file;
 use crate::remains::Remains;
 use crate::replay::replay_input;
@@ -25,6 +24,7 @@ use std::env;
 use std::io::{self, ErrorKind, Write};
 use store::SqlKeep;
 use store_list::ListKeep;
+use tcp::{Listen, Listener};
 
 // The exit status of words that are no command line.
 const REFUSED: u8 = 2;

@@ -9,13 +9,13 @@ ghost use Rattle.site_connections.specs.Turns.{Takes};
 ghost use Rattle.site_serve.specs.Serving.{keep_of};
 
 use crate::houses::KeepInFile;
-use crate::listener::Listen;
 use crate::remains::{Remains, refuse_house};
 use auction_runs::{MOST, TaskFault, begin_site, serve_connections, serve_run};
 use auction_words::Serve;
 use device::Writing;
 use site::Site;
 use std::alloc::Global;
+use tcp::Listen;
 
 // Serves connections over a site, and gives its keep back.
 fn serve_site<K: KeepInFile, C: Listen>(

@@ -15,7 +15,7 @@ pub struct Steady {
 
 impl Steady {
     /// The stream, read and written so.
-    pub fn new(stream: TcpStream) -> Steady {
+    pub(crate) fn new(stream: TcpStream) -> Steady {
         Steady { stream }
     }
 }

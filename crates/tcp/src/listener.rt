@@ -28,8 +28,8 @@ pub struct Listener {
 }
 
 impl Listener {
-    /// So many that come to it.
-    pub fn new(listener: TcpListener, count: u64) -> Listener {
+    // So many that come to it.
+    fn new(listener: TcpListener, count: u64) -> Listener {
         Listener {
             listener: Some(listener),
             left: count,
