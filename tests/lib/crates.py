@@ -10,7 +10,12 @@ def dependencies(folder):
     """By crate of a repository, lowest first, the crates of the repository that it stands on, all the way down."""
     lines = (folder / "crates.txt").read_text().splitlines()
     rows = dict(line.split(":") for line in lines if re.match(r"\w+:", line))
-    return {crate: [below for below in row.split() if below in rows] for crate, row in rows.items()}
+    below = {}
+    for crate, row in rows.items():
+        named = {name for name in row.split() if name in rows}
+        wanted = named.union(*(below[name] for name in named))
+        below[crate] = [name for name in rows if name in wanted]
+    return below
 
 
 def crates_of(words, folder):
