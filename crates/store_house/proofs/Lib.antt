@@ -1,11 +1,10 @@
 pub mod ArrangedLemmas
-pub mod CategoryMeaning
-pub mod CategoryLemmas
 pub mod CountMeaning
 pub mod CountLemmas
 pub mod FindMeaning
-pub mod MemberMeaning
-pub mod MemberLemmas
+pub mod NamedTable
+pub mod People
+pub mod PeopleMeaning
 pub mod PeopleFinds
 pub mod PeopleSound
 pub mod Written

@@ -1,3 +1,4 @@
+pub mod Found
 pub mod Named
 pub mod Opening
 pub mod Over

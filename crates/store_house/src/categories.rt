@@ -10,10 +10,11 @@ ghost use Rattle.store_rows.specs.House.{IsBegun, Serves, AddsCategory};
 ghost use Rattle.store_rows.specs.Rows.{categories_in};
 ghost use Rattle.store_rows.specs.Frames.{Finds, WritesOnce};
 
+use crate::found::{row_found, rows_found};
 use house_rows::{Category, KeepFault};
 use sqlite::{Alter, Connection, Transaction, params};
 use std::alloc::Global;
-use store_rows::{all_of, first_of, rows_shown, run};
+use store_rows::run;
 
 /// Adds a category within a transaction.
 pub(crate) fn put_category<S: Alter>(
@@ -48,12 +49,11 @@ pub fn category_at<S: Alter>(
         (λ db. IfSome (find (λ m. m.category == number) (categories_in db)) CategoryFits) }
     ensures fits { IfOk result (λ found. IfSome found CategoryFits) }
 {
-    let rows = rows_shown(
+    row_found(
         conn,
         "SELECT id, name FROM category WHERE id = ?1 ORDER BY id",
         params![number],
-    )?;
-    first_of(&rows)
+    )
 }
 
 /// The category with a name.
@@ -67,12 +67,11 @@ pub fn category_named<S: Alter>(
         (λ db. IfSome (find (λ m. same_text m.name name.now) (categories_in db)) CategoryFits) }
     ensures fits { IfOk result (λ found. IfSome found CategoryFits) }
 {
-    let rows = rows_shown(
+    row_found(
         conn,
         "SELECT id, name FROM category WHERE name = ?1 ORDER BY id",
         params![name],
-    )?;
-    first_of(&rows)
+    )
 }
 
 /// All categories, by number.
@@ -85,6 +84,10 @@ pub fn all_categories<S: Alter>(
         (λ db all. all.items ≡ categories_in db) (λ db. AllByRecursion CategoryFits (categories_in db)) }
     ensures fits { IfOk result (λ all. AllByRecursion CategoryFits all.items) }
 {
-    let rows = rows_shown(conn, "SELECT id, name FROM category ORDER BY id", &[])?;
-    all_of(alloc, &rows)
+    rows_found(
+        alloc,
+        conn,
+        "SELECT id, name FROM category ORDER BY id",
+        &[],
+    )
 }

@@ -18,6 +18,7 @@ mod anew;
 mod by_names;
 mod categories;
 mod counts;
+mod found;
 mod look_ups;
 mod make;
 mod members;

@@ -10,10 +10,11 @@ ghost use Rattle.store_rows.specs.House.{IsBegun, Serves, AddsMember};
 ghost use Rattle.store_rows.specs.Rows.{members_in};
 ghost use Rattle.store_rows.specs.Frames.{Finds, WritesOnce};
 
+use crate::found::{row_found, rows_found};
 use house_rows::{KeepFault, Member};
 use sqlite::{Alter, Connection, Transaction, params};
 use std::alloc::Global;
-use store_rows::{all_of, first_of, rows_shown, run};
+use store_rows::run;
 
 /// Adds a member within a transaction.
 pub(crate) fn put_member<S: Alter>(
@@ -48,12 +49,11 @@ pub fn member_at<S: Alter>(
         (λ db. IfSome (find (λ m. m.member == number) (members_in db)) MemberFits) }
     ensures fits { IfOk result (λ found. IfSome found MemberFits) }
 {
-    let rows = rows_shown(
+    row_found(
         conn,
         "SELECT id, name FROM member WHERE id = ?1 ORDER BY id",
         params![number],
-    )?;
-    first_of(&rows)
+    )
 }
 
 /// The member with a name.
@@ -67,12 +67,11 @@ pub fn member_named<S: Alter>(
         (λ db. IfSome (find (λ m. same_text m.name name.now) (members_in db)) MemberFits) }
     ensures fits { IfOk result (λ found. IfSome found MemberFits) }
 {
-    let rows = rows_shown(
+    row_found(
         conn,
         "SELECT id, name FROM member WHERE name = ?1 ORDER BY id",
         params![name],
-    )?;
-    first_of(&rows)
+    )
 }
 
 /// All members, by number.
@@ -85,6 +84,5 @@ pub fn all_members<S: Alter>(
         (λ db all. all.items ≡ members_in db) (λ db. AllByRecursion MemberFits (members_in db)) }
     ensures fits { IfOk result (λ all. AllByRecursion MemberFits all.items) }
 {
-    let rows = rows_shown(conn, "SELECT id, name FROM member ORDER BY id", &[])?;
-    all_of(alloc, &rows)
+    rows_found(alloc, conn, "SELECT id, name FROM member ORDER BY id", &[])
 }

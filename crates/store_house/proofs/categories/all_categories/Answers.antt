@@ -1,26 +1,10 @@
-use Rattle.std.proofs.Common.{◌≡◌, ◌∙◌, ap, map, rules, subst, sym}
-use Rattle.std.specs.List.{AllByRecursion}
-use Rattle.sqlite.specs.Held.{state}
-use Rattle.sqlite.specs.State.{HasCleanDisk}
-use Rattle.house_rows.specs.Fits.{CategoryFits}
-use Rattle.store_rows.specs.Rows.{category_of}
-use Rattle.store_rows.proofs.StateLemmas.{ok_then}
-use Rattle.store_house.proofs.CategoryMeaning.{all_is}
-use Rattle.store_house.proofs.CategoryLemmas.{all_answer}
+use Rattle.store_house.proofs.NamedTable.{all_list}
+use Rattle.store_house.proofs.People.{categories}
+use Rattle.store_house.proofs.PeopleMeaning.{all_categories_are}
 use Rattle.store_house.proofs.categories.all_categories.Goals as goal
 
-pub rows_shown-requires-clause-plain : goal.rows_shown-requires-clause-plain
-rows_shown-requires-clause-plain g c = all_is.2
+pub rows_found-requires-clause-plain : goal.rows_found-requires-clause-plain
+rows_found-requires-clause-plain g c = all_categories_are.2
 
 pub returns-clause-finds : goal.returns-clause-finds
-returns-clause-finds g c =
-    let old = state g.S.Store c.args.conn.now in
-    let new = state g.S.Store c.rows_shown.new.conn in
-    let rows = c.in_ok-rows.rows.items in
-    let same : c.deref.result.now ≡ rows = search rules in
-    let found = λ (clean : HasCleanDisk new). ap (map category_of) same ∙ all_answer old new rows (c.rows_shown.ensures.house clean) (c.in_ok-rows.ensures.rows clean) in
-    record {
-      value = λ clean. ok_then c.all_of.result c.all_of.ensures.value (λ _ e. e ∙ found clean);
-      damaged = λ clean fits. c.all_of.ensures.damaged (subst (AllByRecursion CategoryFits) (sym (found clean)) fits);
-      read = search rules;
-    }
+returns-clause-finds g c = c.rows_found.ensures.finds _ (all_list categories _ _ _ all_categories_are)

@@ -1,28 +1,13 @@
-use Rattle.std.proofs.Common.{◌≡◌, ◌<◌, ◌^◌, ◌∙◌, IfSome, ap, arith, option_map, rules, slice_get, subst, sym}
-use Rattle.sqlite.specs.Held.{state}
-use Rattle.sqlite.specs.State.{HasCleanDisk}
-use Rattle.house_rows.specs.Fits.{MemberFits}
-use Rattle.store_rows.specs.Rows.{member_of}
-use Rattle.store_rows.proofs.StateLemmas.{ok_then}
-use Rattle.store_house.proofs.MemberMeaning.{at_is}
-use Rattle.store_house.proofs.MemberLemmas.{first_at}
+use Rattle.std.proofs.Common.{◌==◌, arith}
+use Rattle.store_rows.specs.Rows.{members_in}
+use Rattle.store_house.proofs.NamedTable.{at_lists}
+use Rattle.store_house.proofs.People.{members}
+use Rattle.store_house.proofs.PeopleMeaning.{member_at_is}
 use Rattle.store_house.proofs.members.member_at.Goals as goal
 
-pub rows_shown-requires-clause-plain : goal.rows_shown-requires-clause-plain
-rows_shown-requires-clause-plain g c = at_is.2
+pub row_found-requires-clause-plain : goal.row_found-requires-clause-plain
+row_found-requires-clause-plain g c = member_at_is.2
 
 pub returns-clause-finds : goal.returns-clause-finds
 returns-clause-finds g c =
-    let old = state g.S.Store c.args.conn.now in
-    let new = state g.S.Store c.rows_shown.new.conn in
-    let rows = c.in_ok-rows.rows.items in
-    let same : c.deref.result.now ≡ rows = search rules in
-    let low : c.args.number < 2 ^ 32 = omega (arith, c.ranges.number) in
-    let found = λ (clean : HasCleanDisk new). (
-    let shown = rw c.params-to_sql.ensures at (c.in_ok-rows.ensures.rows clean) in
-    ap (λ l. option_map member_of (slice_get l 0)) same ∙ first_at old new rows (c.rows_shown.ensures.house clean) c.args.number low shown) in
-    record {
-      value = λ clean. ok_then c.first_of.result c.first_of.ensures.value (λ _ e. e ∙ found clean);
-      damaged = λ clean fits. c.first_of.ensures.damaged (subst (λ o. IfSome o MemberFits) (sym (found clean)) fits);
-      read = search rules;
-    }
+    rw c.params-to_sql.ensures at (c.row_found.ensures.finds members_in (λ x. x.member == c.args.number)) (at_lists members _ _ _ member_at_is c.args.number (omega (arith, c.ranges.number)))

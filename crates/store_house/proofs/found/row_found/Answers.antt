@@ -1,0 +1,21 @@
+use Rattle.std.proofs.Common.{◌≡◌, ◌∙◌, IfSome, ap, option_map, rules, slice_get, subst, sym}
+use Rattle.sqlite.specs.Held.{state}
+use Rattle.sqlite.specs.State.{HasCleanDisk}
+use Rattle.store_rows.proofs.RowLemmas.{first_is}
+use Rattle.store_rows.proofs.StateLemmas.{ok_then}
+use Rattle.store_house.proofs.found.row_found.Goals as goal
+
+pub returns-clause-finds : goal.returns-clause-finds
+returns-clause-finds g c table keep lists =
+    let report = g.T.Stored.report in
+    let old = state g.S.Store c.args.conn.now in
+    let new = state g.S.Store c.rows_shown.new.conn in
+    let rows = c.in_ok-rows.rows.items in
+    let same : c.deref.result.now ≡ rows = search rules in
+    let found = λ (clean : HasCleanDisk new). ap (λ l. option_map report (slice_get l 0)) same
+    ∙ first_is report keep rows (table old.now.trees) (lists (c.rows_shown.ensures.house clean) rows (c.in_ok-rows.ensures.rows clean)) in
+    record {
+      value = λ clean. ok_then c.first_of.result c.first_of.ensures.value (λ _ e. e ∙ found clean);
+      damaged = λ clean fits. c.first_of.ensures.damaged (subst (λ o. IfSome o g.T.Stored.fits) (sym (found clean)) fits);
+      read = search rules;
+    }

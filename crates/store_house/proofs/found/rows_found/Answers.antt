@@ -1,0 +1,19 @@
+use Rattle.std.proofs.Common.{◌≡◌, ◌∙◌, ap, map, rules, subst, sym}
+use Rattle.std.specs.List.{AllByRecursion}
+use Rattle.sqlite.specs.Held.{state}
+use Rattle.sqlite.specs.State.{HasCleanDisk}
+use Rattle.store_rows.proofs.StateLemmas.{ok_then}
+use Rattle.store_house.proofs.found.rows_found.Goals as goal
+
+pub returns-clause-finds : goal.returns-clause-finds
+returns-clause-finds g c table lists =
+    let old = state g.S.Store c.args.conn.now in
+    let new = state g.S.Store c.rows_shown.new.conn in
+    let rows = c.in_ok-rows.rows.items in
+    let same : c.deref.result.now ≡ rows = search rules in
+    let found = λ (clean : HasCleanDisk new). ap (map g.T.Stored.report) same ∙ lists (c.rows_shown.ensures.house clean) rows (c.in_ok-rows.ensures.rows clean) in
+    record {
+      value = λ clean. ok_then c.all_of.result c.all_of.ensures.value (λ _ e. e ∙ found clean);
+      damaged = λ clean fits. c.all_of.ensures.damaged (subst (AllByRecursion g.T.Stored.fits) (sym (found clean)) fits);
+      read = search rules;
+    }
