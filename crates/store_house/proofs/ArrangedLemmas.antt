@@ -1,8 +1,7 @@
 -- A house that is shown in its order is found by its names.
-use Rattle.std.proofs.Common.{◌≡◌, ◌<◌, ◌+◌, ◌∙◌, ℕ, suc, pos, true, cond, List, [], ◌∷◌, ◌++◌, map, filter, find, length, not, Option, Some, None, refl, sym, ap, subst, arith, inl, inr, true≢false, add-one, is_eq, lt-ltb, eqb}
-use Rattle.std.specs.Prelude.{unwrap_or}
-use Rattle.std.specs.List.{AllByRecursion, list_any}
-use Rattle.std.proofs.lemmas.Bool.{and_parts, cases_Bool, cases_lt}
+use Rattle.std.proofs.Common.{◌≡◌, ◌<◌, ◌+◌, ◌∙◌, ℕ, suc, pos, true, cond, List, [], ◌∷◌, ◌++◌, map, filter, not, refl, sym, ap, subst, arith, inl, inr, true≢false, is_eq, lt-ltb, eqb}
+use Rattle.std.specs.List.{list_any}
+use Rattle.std.proofs.lemmas.Bool.{and_parts, cases_Bool}
 use Rattle.std.proofs.lemmas.Cmp.{tied_itself}
 use Rattle.std.proofs.lemmas.Map.Text.{is_eq-slice_cmp}
 use Rattle.std.proofs.lemmas.Slice.Eq.{bytes_eq-Decides}
@@ -10,31 +9,29 @@ use Rattle.sqlite_value.specs.declared.value.Value.{Value}
 use Rattle.sqlite_value.specs.declared.value.Value.TheVariants.{Null, Int, Real, Text, Blob}
 use Rattle.sqlite_value.specs.Order.{Row, bytes, column, value_cmp}
 use Rattle.sqlite_value.proofs.OrderLemmas.{value_cmp-Text, value_cmp-apart, value_cmp_total}
-use Rattle.sqlite_trees.proofs.TreeLemmas.{all-put_row}
-use Rattle.sqlite_trees.specs.Objects.{catalog_tree, row_for}
+use Rattle.sqlite_trees.specs.Objects.{catalog_tree}
 use Rattle.sqlite_trees.specs.Sound as sound
 use Rattle.sqlite_trees.specs.Sound.{Head, are_in_order, head_at, is_word, may_follow}
-use Rattle.sqlite_trees.specs.Tree.{Trees, has_rowid, rowid}
+use Rattle.sqlite_trees.specs.Tree.{Trees, rowid}
 use Rattle.sqlite_trees.specs.View.{IsShaped}
 use Rattle.sqlite_trees.specs.declared.store.Shape.TheVariants.{Table}
-use Rattle.sqlite_catalog.proofs.LayoutLemmas.{row_found, zipped_left}
+use Rattle.sqlite_catalog.proofs.LayoutLemmas.{zipped_left}
 use Rattle.sqlite_catalog.proofs.SoundLemmas.{list_parts, names_agree}
 use Rattle.sqlite_catalog.proofs.StepLemmas.{same_itself}
 use Rattle.sqlite_catalog.specs.Listing.{AreListed, IsTableRow, is_table_row}
-use Rattle.sqlite_rules.proofs.ListLemmas.{all_has, has_filtered, has_found, has_left, has_right, some_from}
+use Rattle.sqlite_rules.proofs.ListLemmas.{has_filtered, has_left, has_right, some_from}
 use Rattle.sqlite_rules.specs.Lists.{Has}
 use Rattle.sqlite_schema.specs.declared.schema.Schema.{Schema}
 use Rattle.sqlite_schema.specs.declared.schema.Table.{Table as SqlTable}
+use Rattle.order_laws.proofs.MovedLemmas.{from_out, low_number, moved_id, moved_there}
 use Rattle.store_house.specs.Named.{IsReordered, house_names, tables_held}
 use Rattle.store_house.specs.Places.{by_names, tree_named, tree_or}
 use Rattle.store_rows.specs.Schema.{band_table, bid_table, category_table, edition_table, feedback_table, house_schema, house_table, item_table, later_band_table, member_table, question_table, reserve_table, watch_table}
 use Rattle.store_rows.specs.Tables.{house_row_in, settings_in, tables_in}
-use Rattle.tree_order.specs.NumberLaws.{number_back, number_past, other_way}
 use Rattle.tree_order.specs.Numbers.{AreInverse, number}
 use Rattle.tree_order.specs.Renumbered.{renumbered_trees}
-use Rattle.tree_order.specs.RowLaws.{column_kept, renumbered_table, row_for_renumbered, rows_back}
-use Rattle.tree_order.specs.Rows.{in_order, renumbered_id, renumbered_row, renumbered_rows, shifted}
-use Rattle.tree_order.specs.TableLaws.{test_from_table}
+use Rattle.tree_order.specs.RowLaws.{column_kept}
+use Rattle.tree_order.specs.Rows.{renumbered_row, renumbered_rows}
 
 -- ---- a name comes once
 
@@ -82,19 +79,6 @@ text_is (Blob b) word h = absurd (true≢false (sym h ∙ ap is_eq (value_cmp-ap
 is_text : (v : Value) (word : List ℕ) → v ≡ Text word → is_word word v ≡ true
 is_text v word is = ap (λ x. is_eq (value_cmp x (Text word))) is ∙ ap is_eq (tied_itself value_cmp_total (Text word))
 
-in_order_all : (P : Row → Type 0) (rows : List Row) → AllByRecursion P rows → AllByRecursion P (in_order rows)
-in_order_all P [] all = tt
-in_order_all P (row ∷ rows) all = all-put_row P row (in_order rows) all.0 (in_order_all P rows all.1)
-
-row_there : (rows : List Row) (k : ℕ) (r : Row) (name : List ℕ) → row_for rows k ≡ r → column r 2 ≡ Text name → Has rows r
-row_there rows k r name is named = go (find (has_rowid (pos (k + 1))) rows) refl
-  where
-    go : (o : Option Row) → find (has_rowid (pos (k + 1))) rows ≡ o → Has rows r
-    go None e = absurd (let gone : [] ≡ r = ap (λ x. unwrap_or x []) (sym e) ∙ is in let h = ap (λ (row : Row). column row 2) gone ∙ named in cc)
-    go (Some x) e =
-        let same : x ≡ r = ap (λ y. unwrap_or y []) (sym e) ∙ is in
-        subst (Has rows) same (has_found (has_rowid (pos (k + 1))) rows x e).0
-
 -- of rows whose name is that of a tree, the first has it
 named_is : (name : List ℕ) (n other : ℕ) (rows : List Row) → n < 65536
     → ((r : Row) → Has rows r → column r 2 ≡ Text name → rowid r ≡ Int (pos (suc n)))
@@ -113,48 +97,9 @@ named_is name n other (x ∷ rows) low are r has is = elim (cases_Bool (is_word 
       ]
 ]
 
-pub low_number : (inner outer : List ℕ) → AreInverse inner outer → (tree : ℕ) → tree < 65536 → number inner tree < 65536
-low_number inner outer h tree low = elim (cases_lt tree (length inner)) [
-  | inl within ↦ omega (arith, h.low tree within, h.few)
-  | inr past ↦ omega (arith, number_past inner tree past)
-]
-
-pub moved_id : (inner : List ℕ) (s : Row) (tree : ℕ) → rowid s ≡ Int (pos (tree + 1)) → rowid (renumbered_row inner s) ≡ Int (pos (suc (number inner tree)))
-moved_id inner [] tree id = absurd (cc)
-moved_id inner (v ∷ more) tree id = ap (renumbered_id inner) id ∙ ap (λ n. Int (shifted inner (pos n))) (add-one tree) ∙ ap (λ n. Int (pos n)) (add-one (number inner tree))
-
 module _ (inner outer : List ℕ) (h : AreInverse inner outer) (rows : List Row) (table : IsShaped Table rows) where
   abbrev out : List Row
   out = renumbered_rows outer rows
-
-  pub out_table : IsShaped Table out
-  out_table = renumbered_table outer rows table
-
-  back : renumbered_rows inner out ≡ rows
-  back = rows_back inner outer h rows
-
-  abbrev pub IsMoved : Row → Type 0
-  IsMoved r = (s : Row) × Has out s × (r ≡ renumbered_row inner s)
-
-  moved : (some : List Row) → ((s : Row) → Has some s → Has out s) → AllByRecursion IsMoved (map (renumbered_row inner) some)
-  moved [] within = tt
-  moved (s ∷ some) within = ((s, within s (inl refl), refl), moved some (λ x has. within x (inr has)))
-
-  -- each row is one of the list in order, moved
-  pub from_out : (r : Row) → Has rows r → IsMoved r
-  from_out r has =
-      let sorted : in_order (map (renumbered_row inner) out) ≡ rows = sym (ap (λ b. cond b (in_order (map (renumbered_row inner) out)) out) (test_from_table out out_table)) ∙ back in
-      all_has IsMoved rows r (subst (AllByRecursion IsMoved) sorted (in_order_all IsMoved (map (renumbered_row inner) out) (moved out (λ s x. x)))) has
-
-  -- and each row in order is there, moved
-  pub moved_there : (s : Row) → Has out s → (tree : ℕ) → rowid s ≡ Int (pos (tree + 1)) → (name : List ℕ) → column s 2 ≡ Text name → Has rows (renumbered_row inner s)
-  moved_there s has tree id name named =
-      let at : row_for rows (number inner tree) ≡ renumbered_row inner s =
-      ap (λ l. row_for l (number inner tree)) (sym back)
-      ∙ row_for_renumbered outer inner (other_way inner outer h) out (number inner tree) out_table
-      ∙ ap (λ t. renumbered_row inner (row_for out t)) (number_back inner outer h tree)
-      ∙ ap (renumbered_row inner) (row_found out s tree out_table.0 has id) in
-      row_there rows (number inner tree) (renumbered_row inner s) name at (column_kept inner s 1 ∙ named)
 
   -- so the tree of an object is found by its name
   found_by_name : are_in_order [] (map (head_at 1) out) ≡ true → (s : Row) → Has out s → (tree : ℕ) → tree < 65536 → rowid s ≡ Int (pos (tree + 1))
@@ -164,11 +109,11 @@ module _ (inner outer : List ℕ) (h : AreInverse inner outer) (rows : List Row)
       let is_named : column r 2 ≡ Text name = column_kept inner s 1 ∙ named in
       named_is name (number inner tree) other rows (low_number inner outer h tree low)
       (λ x there same.
-      let from = from_out x there in
+      let from = from_out inner outer h rows table x there in
       let its : column from.0 2 ≡ Text name = sym (column_kept inner from.0 1) ∙ ap (λ (row : Row). column row 2) (sym from.2) ∙ same in
       let one : from.0 ≡ s = one_named [] out once from.0 s from.1 has name its named in
       ap rowid (from.2 ∙ ap (renumbered_row inner) one) ∙ moved_id inner s tree id)
-      r (moved_there s has tree id name named) is_named
+      r (moved_there inner outer h rows table s has tree id name named) is_named
 
   -- and a table of a schema that the list in order has
   pub table_by_name : (schema : Schema) → AreListed out schema → (t : SqlTable) → Has schema.tables t → (other : ℕ) → tree_named t.name other rows ≡ number inner t.tree
