@@ -29,7 +29,7 @@ use Rattle.tree_order.specs.declared.numbers.Numbers.{Numbers}
 use Rattle.tree_order.specs.declared.renumbered.Renumbered.{Renumbered}
 
 -- what leads back from a list is one list
-one_inverse : (inner outer other : List ℕ) → AreInverse inner outer → AreInverse inner other → outer ≡ other
+pub one_inverse : (inner outer other : List ℕ) → AreInverse inner outer → AreInverse inner other → outer ≡ other
 one_inverse inner outer other h k = same_lists outer other (h.same ∙ sym k.same) (λ t d low.
     let at : number outer t ≡ number other t = same_number inner outer h (number outer t) (number other t) (h.forth t (omega (arith, h.same)) ∙ sym (k.forth t (omega (arith, h.same)))) in
     get_or_default outer t d t low ∙ at ∙ get_or_default other t t d (omega (arith, h.same, k.same)))
