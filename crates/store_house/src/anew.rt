@@ -166,6 +166,7 @@ pub fn either_anew<S: Alter + Drop>(
         → (state S.Store r.0).now ≡ (state S.Store r.0).committed) }
     ensures same { IfOk result (λ r. HasCleanDisk (state S.Store r.0)
         → (state S.Store r.0).now.trees ≡ (state S.Store conn).committed.trees) }
+    ensures mode { IfOk result (λ r. r.0.in_transaction ≡ false) }
     ensures follows { IfOk result (λ r. Follows S.Store conn r.0.store) }
     ensures left { IfErr result (λ e. Follows S.Store conn e.1) }
     ensures damaged { IfErr result (λ e. e.0 ≡ Damaged → IsClean (S.Store.view e.1)
