@@ -1,6 +1,4 @@
 pub mod ArrangedLemmas
-pub mod CountMeaning
-pub mod CountLemmas
 pub mod FindMeaning
 pub mod NamedTable
 pub mod People

@@ -1,73 +1,59 @@
--- What the queries for numbers out of range mean.
-use Rattle.std.proofs.Common.{◌≡◌, refl, List, [], ◌∷◌, ℕ, pos, codes, false}
-use Rattle.sqlite_value.specs.declared.value.Value.TheVariants.{Int}
-use Rattle.sqlite_value.specs.declared.keys.Collation.TheVariants.{Binary}
-use Rattle.sqlite_sql.specs.Term.{Term, lit, col, op2}
-use Rattle.sqlite_sql.specs.declared.ops.BinaryOp.TheVariants.{Compare}
-use Rattle.sqlite_sql.specs.declared.ops.CompareOp.TheVariants.{Lt, Gt}
-use Rattle.sqlite.specs.Command.TheVariants.{Select}
-use Rattle.sqlite.specs.Listing.{understood, reads_listing}
-use Rattle.sqlite.proofs.Callers.{IsPlain, command_of}
+-- What the statements on the numbers of members, categories and items mean.
+use Rattle.std.proofs.Common.{refl, codes, List, ℕ}
+use Rattle.sqlite_sql.specs.Term.{Term}
+use Rattle.sqlite.specs.Given.{IsPlain}
+use Rattle.sqlite.specs.Listing.{understood}
 use Rattle.sqlite_tied.specs.Compute.{everything}
 use Rattle.store_rows.specs.Schema.{house_schema}
-use Rattle.store_rows.specs.Plain.{plain_query}
-use Rattle.store_rows.proofs.Select.{by_rowid}
+use Rattle.store_house.specs.Numbers.{CountsRows, IsTableTree, ShowsNumbers, is_above, is_below}
 
-abbrev pub members_below_text : List ℕ
-members_below_text = codes "SELECT id FROM member WHERE id < 1 ORDER BY id"
+abbrev pub Counts : List ℕ → ℕ → Type 0
+Counts sql tree = CountsRows sql tree × IsPlain (understood house_schema sql)
 
-abbrev pub members_above_text : List ℕ
-members_above_text = codes "SELECT id FROM member WHERE id > ?1 ORDER BY id"
+abbrev pub Shows : List ℕ → ℕ → List Term → Type 0
+Shows sql tree test = ShowsNumbers sql tree test × IsPlain (understood house_schema sql)
 
-abbrev pub categories_below_text : List ℕ
-categories_below_text = codes "SELECT id FROM category WHERE id < 1 ORDER BY id"
+pub member_tree : IsTableTree 2
+member_tree = record { over = λ db. refl; shaped = λ db house. house.shaped.1.1.0 }
 
-abbrev pub categories_above_text : List ℕ
-categories_above_text = codes "SELECT id FROM category WHERE id > ?1 ORDER BY id"
+pub category_tree : IsTableTree 4
+category_tree = record { over = λ db. refl; shaped = λ db house. house.shaped.1.1.1.0 }
 
-abbrev pub items_below_text : List ℕ
-items_below_text = codes "SELECT id FROM item WHERE id < 1 ORDER BY id"
+pub item_tree : IsTableTree 6
+item_tree = record { over = λ db. refl; shaped = λ db house. house.shaped.1.1.1.1.0 }
 
-abbrev pub items_above_text : List ℕ
-items_above_text = codes "SELECT id FROM item WHERE id > ?1 ORDER BY id"
-
--- the rowid is below 1
-abbrev pub is_below : List Term
-is_below = op2 (Compare Lt Binary) (col 1 0) (lit (Int (pos 1))) ∷ []
-
--- the rowid is above the first parameter
-abbrev pub is_above : List Term
-is_above = op2 (Compare Gt Binary) (col 1 0) (col 0 0) ∷ []
-
-abbrev pub number_shown : List Term
-number_shown = col 1 0 ∷ []
-
-pub members_below_is : (command_of (understood house_schema members_below_text) ≡ Select (record { lets = []; body = plain_query 2 is_below number_shown by_rowid }) (codes "id" ∷ []))
-    × (reads_listing house_schema members_below_text ≡ false) × IsPlain (understood house_schema members_below_text)
+pub count_members_is : Counts (codes "SELECT count(*) FROM member") 2
 unfolding understood everything
-members_below_is = (refl, refl, (refl, refl))
+count_members_is = ((refl, refl), (refl, refl))
 
-pub members_above_is : (command_of (understood house_schema members_above_text) ≡ Select (record { lets = []; body = plain_query 2 is_above number_shown by_rowid }) (codes "id" ∷ []))
-    × (reads_listing house_schema members_above_text ≡ false) × IsPlain (understood house_schema members_above_text)
+pub members_below_is : Shows (codes "SELECT id FROM member WHERE id < 1 ORDER BY id") 2 is_below
 unfolding understood everything
-members_above_is = (refl, refl, (refl, refl))
+members_below_is = ((refl, refl), (refl, refl))
 
-pub categories_below_is : (command_of (understood house_schema categories_below_text) ≡ Select (record { lets = []; body = plain_query 4 is_below number_shown by_rowid }) (codes "id" ∷ []))
-    × (reads_listing house_schema categories_below_text ≡ false) × IsPlain (understood house_schema categories_below_text)
+pub members_above_is : Shows (codes "SELECT id FROM member WHERE id > ?1 ORDER BY id") 2 is_above
 unfolding understood everything
-categories_below_is = (refl, refl, (refl, refl))
+members_above_is = ((refl, refl), (refl, refl))
 
-pub categories_above_is : (command_of (understood house_schema categories_above_text) ≡ Select (record { lets = []; body = plain_query 4 is_above number_shown by_rowid }) (codes "id" ∷ []))
-    × (reads_listing house_schema categories_above_text ≡ false) × IsPlain (understood house_schema categories_above_text)
+pub count_categories_is : Counts (codes "SELECT count(*) FROM category") 4
 unfolding understood everything
-categories_above_is = (refl, refl, (refl, refl))
+count_categories_is = ((refl, refl), (refl, refl))
 
-pub items_below_is : (command_of (understood house_schema items_below_text) ≡ Select (record { lets = []; body = plain_query 6 is_below number_shown by_rowid }) (codes "id" ∷ []))
-    × (reads_listing house_schema items_below_text ≡ false) × IsPlain (understood house_schema items_below_text)
+pub categories_below_is : Shows (codes "SELECT id FROM category WHERE id < 1 ORDER BY id") 4 is_below
 unfolding understood everything
-items_below_is = (refl, refl, (refl, refl))
+categories_below_is = ((refl, refl), (refl, refl))
 
-pub items_above_is : (command_of (understood house_schema items_above_text) ≡ Select (record { lets = []; body = plain_query 6 is_above number_shown by_rowid }) (codes "id" ∷ []))
-    × (reads_listing house_schema items_above_text ≡ false) × IsPlain (understood house_schema items_above_text)
+pub categories_above_is : Shows (codes "SELECT id FROM category WHERE id > ?1 ORDER BY id") 4 is_above
 unfolding understood everything
-items_above_is = (refl, refl, (refl, refl))
+categories_above_is = ((refl, refl), (refl, refl))
+
+pub count_items_is : Counts (codes "SELECT count(*) FROM item") 6
+unfolding understood everything
+count_items_is = ((refl, refl), (refl, refl))
+
+pub items_below_is : Shows (codes "SELECT id FROM item WHERE id < 1 ORDER BY id") 6 is_below
+unfolding understood everything
+items_below_is = ((refl, refl), (refl, refl))
+
+pub items_above_is : Shows (codes "SELECT id FROM item WHERE id > ?1 ORDER BY id") 6 is_above
+unfolding understood everything
+items_above_is = ((refl, refl), (refl, refl))

@@ -1,5 +1,6 @@
 pub mod Found
 pub mod Named
+pub mod Numbers
 pub mod Opening
 pub mod Over
 pub mod Places

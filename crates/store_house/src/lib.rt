@@ -17,7 +17,6 @@
 mod anew;
 mod by_names;
 mod categories;
-mod counts;
 mod found;
 mod look_ups;
 mod make;

@@ -1,26 +1,23 @@
 //! How many members, categories and items there are, whose numbers run no higher.
-ghost use Rattle.std.specs.Prelude.{◌≡◌, ◌<◌, ◌^◌, List, [], IfOk, OnOk, IsErrOf};
-ghost use Rattle.std.specs.List.{AllByRecursion};
+ghost use Rattle.std.specs.Prelude.{◌≡◌, ◌<◌, ◌^◌, ℕ, ⊤, List, [], length, min, IfOk, OnOk, IsErrOf};
 ghost use Rattle.sqlite_value.specs.Order.{Row};
 ghost use Rattle.sqlite.specs.Given.{IsPlain};
 ghost use Rattle.sqlite.specs.Held.{state};
 ghost use Rattle.sqlite.specs.Listing.{understood};
 ghost use Rattle.sqlite.specs.State.{HasCleanDisk, Shown};
 ghost use Rattle.sqlite.specs.Values.{bound};
-ghost use Rattle.house_rows.specs.Fits.{IsWithin};
 ghost use Rattle.house_rows.specs.declared.fault.KeepFault.TheVariants.{Damaged};
 ghost use Rattle.store_rows.specs.House.{IsHouse, Serves};
-ghost use Rattle.store_rows.specs.ItemRows.{items_by};
-ghost use Rattle.store_rows.specs.Rows.{categories_in, members_in};
+ghost use Rattle.store_rows.specs.Counts.{most_counted};
 ghost use Rattle.store_rows.specs.Schema.{house_schema};
+ghost use Rattle.store_house.specs.Numbers.{AreWithin, CountsRows, IsTableTree, ShowsNumbers, is_above, is_below, row_number};
 ghost use Rattle.store_house.specs.Opening.{AreNumbered, HaveNumbers, IsCount};
 ghost use Rattle.store_rows.specs.Frames.{Finds, OnlyReads};
 
-use crate::counts::{count_categories, count_items, count_members};
 use house_rows::{Counts, KeepFault};
 use sqlite::types::ValueRef;
 use sqlite::{Alter, Connection, params};
-use store_rows::rows_shown;
+use store_rows::{read_count, rows_shown};
 
 // Damaged where a query shows a row.
 fn shows_none<S: Alter>(
@@ -59,86 +56,57 @@ fn small(count: u64) -> Result<u32, KeepFault>
     }
 }
 
-// Damaged where a member has a number that is not from 1 to this one.
-fn members_within<S: Alter>(conn: &mut Connection<S>, most: u32) -> Result<(), KeepFault>
-    requires { Serves (state S.Store conn.old) }
-    ensures { Finds S.Store conn.old conn.new result
-        (λ db _. AllByRecursion (λ m. IsWithin 1 most m.member) (members_in db))
-        (λ db. AllByRecursion (λ m. IsWithin 1 most m.member) (members_in db)) }
+// How many rows a table has.
+fn count_rows<S: Alter>(conn: &mut Connection<S>, sql: &str) -> Result<u64, KeepFault>
+    requires serves { Serves (state S.Store conn.old) }
+    requires plain { IsPlain (understood house_schema sql.now) }
+    ensures finds { (tree : ℕ) → IsTableTree tree → CountsRows sql.now tree
+        → Finds S.Store conn.old conn.new result
+        (λ db n. n ≡ min (length (db tree)) most_counted) (λ _. ⊤) }
+    ensures read { OnlyReads (state S.Store conn.old) (state S.Store conn.new) result }
 {
-    shows_none(conn, "SELECT id FROM member WHERE id < 1 ORDER BY id", &[])?;
-    shows_none(
-        conn,
-        "SELECT id FROM member WHERE id > ?1 ORDER BY id",
-        params![most],
-    )
+    let rows = rows_shown(conn, sql, &[])?;
+    read_count(&rows)
 }
 
-// Damaged where a category has a number that is not from 1 to this one.
-fn categories_within<S: Alter>(conn: &mut Connection<S>, most: u32) -> Result<(), KeepFault>
-    requires { Serves (state S.Store conn.old) }
-    ensures { Finds S.Store conn.old conn.new result
-        (λ db _. AllByRecursion (λ k. IsWithin 1 most k.category) (categories_in db))
-        (λ db. AllByRecursion (λ k. IsWithin 1 most k.category) (categories_in db)) }
+// Damaged where a table has a number that is not from 1 to this one.
+fn check_numbers<S: Alter>(
+    conn: &mut Connection<S>,
+    below: &str,
+    above: &str,
+    most: u32,
+) -> Result<(), KeepFault>
+    requires serves { Serves (state S.Store conn.old) }
+    requires plain { IsPlain (understood house_schema below.now)
+        × IsPlain (understood house_schema above.now) }
+    ensures finds { (tree : ℕ) → IsTableTree tree → ShowsNumbers below.now tree is_below
+        → ShowsNumbers above.now tree is_above → Finds S.Store conn.old conn.new result
+        (λ db _. AreWithin most (db tree)) (λ db. AreWithin most (db tree)) }
+    ensures read { OnlyReads (state S.Store conn.old) (state S.Store conn.new) result }
 {
-    shows_none(
-        conn,
-        "SELECT id FROM category WHERE id < 1 ORDER BY id",
-        &[],
-    )?;
-    shows_none(
-        conn,
-        "SELECT id FROM category WHERE id > ?1 ORDER BY id",
-        params![most],
-    )
+    shows_none(conn, below, &[])?;
+    shows_none(conn, above, params![most])
 }
 
-// Damaged where an item has a number that is not from 1 to this one.
-fn items_within<S: Alter>(conn: &mut Connection<S>, most: u32) -> Result<(), KeepFault>
-    requires { Serves (state S.Store conn.old) }
-    ensures { Finds S.Store conn.old conn.new result
-        (λ db _. AllByRecursion (λ row. IsWithin 1 most row.item.terms.item) (items_by [] db))
-        (λ db. AllByRecursion (λ row. IsWithin 1 most row.item.terms.item) (items_by [] db)) }
+// How many rows a table has; Damaged where one has a number that is 0 or over that.
+fn count_numbered<S: Alter>(
+    conn: &mut Connection<S>,
+    count: &str,
+    below: &str,
+    above: &str,
+) -> Result<u32, KeepFault>
+    requires serves { Serves (state S.Store conn.old) }
+    requires plain { IsPlain (understood house_schema count.now)
+        × IsPlain (understood house_schema below.now) × IsPlain (understood house_schema above.now) }
+    ensures finds { (tree : ℕ) → IsTableTree tree → CountsRows count.now tree
+        → ShowsNumbers below.now tree is_below → ShowsNumbers above.now tree is_above
+        → Finds S.Store conn.old conn.new result (λ db n. IsCount n row_number (db tree))
+        (λ db. IsCount (length (db tree)) row_number (db tree)) }
+    ensures read { OnlyReads (state S.Store conn.old) (state S.Store conn.new) result }
 {
-    shows_none(conn, "SELECT id FROM item WHERE id < 1 ORDER BY id", &[])?;
-    shows_none(
-        conn,
-        "SELECT id FROM item WHERE id > ?1 ORDER BY id",
-        params![most],
-    )
-}
-
-// How many members there are; Damaged where one has a number that is 0 or over that.
-fn members_numbered<S: Alter>(conn: &mut Connection<S>) -> Result<u32, KeepFault>
-    requires { Serves (state S.Store conn.old) }
-    ensures { Finds S.Store conn.old conn.new result
-        (λ db n. IsCount n (λ m. m.member) (members_in db)) AreNumbered }
-{
-    let count = small(count_members(conn)?)?;
-    members_within(conn, count)?;
-    Ok(count)
-}
-
-// How many categories there are; Damaged where one has a number that is 0 or over that.
-fn categories_numbered<S: Alter>(conn: &mut Connection<S>) -> Result<u32, KeepFault>
-    requires { Serves (state S.Store conn.old) }
-    ensures { Finds S.Store conn.old conn.new result
-        (λ db n. IsCount n (λ k. k.category) (categories_in db)) AreNumbered }
-{
-    let count = small(count_categories(conn)?)?;
-    categories_within(conn, count)?;
-    Ok(count)
-}
-
-// How many items there are; Damaged where one has a number that is 0 or over that.
-fn items_numbered<S: Alter>(conn: &mut Connection<S>) -> Result<u32, KeepFault>
-    requires { Serves (state S.Store conn.old) }
-    ensures { Finds S.Store conn.old conn.new result
-        (λ db n. IsCount n (λ row. row.item.terms.item) (items_by [] db)) AreNumbered }
-{
-    let count = small(count_items(conn)?)?;
-    items_within(conn, count)?;
-    Ok(count)
+    let most = small(count_rows(conn, count)?)?;
+    check_numbers(conn, below, above, most)?;
+    Ok(most)
 }
 
 /// How many of each there are. `Damaged` where a number is 0 or over the count of its table.
@@ -146,9 +114,24 @@ pub fn read_counts<S: Alter>(conn: &mut Connection<S>) -> Result<Counts, KeepFau
     requires { Serves (state S.Store conn.old) }
     ensures { Finds S.Store conn.old conn.new result HaveNumbers AreNumbered }
 {
-    let members = members_numbered(conn)?;
-    let categories = categories_numbered(conn)?;
-    let items = items_numbered(conn)?;
+    let members = count_numbered(
+        conn,
+        "SELECT count(*) FROM member",
+        "SELECT id FROM member WHERE id < 1 ORDER BY id",
+        "SELECT id FROM member WHERE id > ?1 ORDER BY id",
+    )?;
+    let categories = count_numbered(
+        conn,
+        "SELECT count(*) FROM category",
+        "SELECT id FROM category WHERE id < 1 ORDER BY id",
+        "SELECT id FROM category WHERE id > ?1 ORDER BY id",
+    )?;
+    let items = count_numbered(
+        conn,
+        "SELECT count(*) FROM item",
+        "SELECT id FROM item WHERE id < 1 ORDER BY id",
+        "SELECT id FROM item WHERE id > ?1 ORDER BY id",
+    )?;
     Ok(Counts {
         members,
         categories,

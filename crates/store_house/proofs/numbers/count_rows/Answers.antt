@@ -1,23 +1,20 @@
 use Rattle.std.proofs.Common.{◌≡◌, ◌∙◌, ap, arith, rules, sym}
 use Rattle.sqlite.specs.Held.{state}
 use Rattle.sqlite.specs.State.{HasCleanDisk}
-use Rattle.store_rows.proofs.StateLemmas.{ok_then}
 use Rattle.store_rows.specs.Counts.{first_number}
-use Rattle.store_house.proofs.CountMeaning.{count_items_is}
-use Rattle.store_house.proofs.CountLemmas.{items_counted}
 use Rattle.store_rows.proofs.CountLemmas.{same_some}
-use Rattle.store_house.proofs.counts.count_items.Goals as goal
+use Rattle.store_rows.proofs.StateLemmas.{ok_then}
+use Rattle.store_house.proofs.NumbersLemmas.{rows_counted}
+use Rattle.store_house.proofs.numbers.count_rows.Goals as goal
 
-pub rows_shown-requires-clause-plain : goal.rows_shown-requires-clause-plain
-rows_shown-requires-clause-plain g c = count_items_is.2
-
-pub returns : goal.returns
-returns g c =
+pub returns-clause-finds : goal.returns-clause-finds
+returns-clause-finds g c tree is counts =
     let old = state g.S.Store c.args.conn.now in
     let new = state g.S.Store c.rows_shown.new.conn in
     let rows = c.in_ok-rows.rows.items in
     let same : c.deref.result.now ≡ rows = search rules in
-    let found = λ (clean : HasCleanDisk new). ap first_number same ∙ items_counted old new rows (c.rows_shown.ensures.house clean) (c.in_ok-rows.ensures.rows clean) in
+    let found = λ (clean : HasCleanDisk new). ap first_number same
+    ∙ rows_counted tree is old new (c.rows_shown.ensures.house clean) c.args.sql.now c.requires.plain counts rows (c.in_ok-rows.ensures.rows clean) in
     record {
       value = λ clean. ok_then c.read_count.result c.read_count.ensures.value (λ n e. same_some n _ (sym e ∙ found clean));
       damaged = λ clean _. c.read_count.ensures.damaged _ (found clean) (omega arith);
