@@ -8,31 +8,30 @@ use Rattle.sqlite_schema.specs.declared.schema.Column.{Column}
 use Rattle.sqlite_schema.specs.declared.schema.Kind.TheVariants as kind
 use Rattle.sqlite_schema.specs.declared.schema.Table.{Table as SqlTable}
 use Rattle.sqlite_catalog.specs.Listing.{IsSound}
-use Rattle.sqlite_sql.specs.Program.{overlay}
 use Rattle.sqlite_sql.specs.Term.{Term, lit, col}
-use Rattle.sqlite_trees.specs.Tree.{Trees, rowid}
-use Rattle.sqlite_trees.specs.View.{IsShaped, is_int}
-use Rattle.sqlite_trees.specs.declared.store.Shape.TheVariants.{Table}
+use Rattle.sqlite_trees.specs.Tree.{rowid}
+use Rattle.sqlite_trees.specs.View.{is_int}
 use Rattle.sqlite_trees.proofs.TreeLemmas.{IsShaped-put_row}
 use Rattle.sqlite_keyed.proofs.ListLemmas.{all_both}
 use Rattle.sqlite_keyed.proofs.RuleLemmas.{first_of_both, second_of_both}
-use Rattle.sqlite.specs.Command.TheVariants.{Insert, Select}
+use Rattle.sqlite.specs.Command.TheVariants.{Insert}
 use Rattle.sqlite.specs.Effect.{Database}
-use Rattle.sqlite.specs.Listing.{understood, reads_listing}
+use Rattle.sqlite.specs.Listing.{understood}
 use Rattle.sqlite.specs.Source.TheVariants.{Values}
-use Rattle.sqlite.specs.State.{State, Shown, Executes}
-use Rattle.sqlite.proofs.Callers.{IsPlain, command_of, reads_as}
+use Rattle.sqlite.specs.State.{State, Executes}
+use Rattle.sqlite.proofs.Callers.{IsPlain, command_of}
 use Rattle.house_rows.specs.Text.{same_text}
 use Rattle.store_rows.specs.House.{IsHouse, KeepsOthers}
-use Rattle.store_rows.specs.Plain.{passes, plain_query, shown_by}
 use Rattle.store_rows.specs.Rows.{number_in, text_in}
 use Rattle.store_rows.specs.Schema.{Layout, house_schema, numbered, strict, table_of}
 use Rattle.store_rows.proofs.RowLemmas.{is_text, text_if, equals_number, equals_text, alone, small}
 use Rattle.store_rows.proofs.TextLemmas.{text_back}
-use Rattle.store_rows.proofs.Select.{listed, in_order, typed_where, typed_all, by_rowid, equals}
+use Rattle.store_rows.proofs.Select.{typed_where, typed_all, equals}
 use Rattle.store_rows.proofs.Wrote.{still_house, map_more}
 use Rattle.store_rows.proofs.Insert.{puts, put_over, cast_int, cast_null}
 use Rattle.store_house.specs.Found.{Lists}
+use Rattle.store_house.specs.Numbers.{IsTableTree, ShowsRows}
+use Rattle.store_house.proofs.NumbersLemmas.{answered}
 
 abbrev columns : List Column
 columns = strict (codes "id") kind.Integer false ∷ strict (codes "name") kind.Text true ∷ []
@@ -44,10 +43,12 @@ layout title tree = numbered title tree columns ((2 ∷ []) ∷ []) []
 abbrev shown : List Term
 shown = col 1 0 ∷ col 1 2 ∷ []
 
+abbrev headings : List (List ℕ)
+headings = codes "id" ∷ codes "name" ∷ []
+
 -- a query for the rows of a table that pass a test, by number
 abbrev pub Reads : List ℕ → ℕ → List Term → Type 0
-Reads sql tree test = (command_of (understood house_schema sql) ≡ Select (record { lets = []; body = plain_query tree test shown by_rowid }) (codes "id" ∷ codes "name" ∷ []))
-    × (reads_listing house_schema sql ≡ false) × IsPlain (understood house_schema sql)
+Reads sql tree test = ShowsRows sql tree test shown headings × IsPlain (understood house_schema sql)
 
 -- an INSERT takes number and name as parameters
 abbrev put_terms : List Term
@@ -73,16 +74,17 @@ rows_are table rows ints typed present =
     one (id ∷ k ∷ []) t p = absurd (true≢false (sym p))
     one (id ∷ k ∷ v ∷ more) t p = text_if v (first_of_both _ _ (second_of_both _ _ (first_of_both _ _ t))) (first_of_both _ _ p)
 
+-- a house obeys its schema
 pub sound_house : (db : Database) → IsHouse db → IsSound house_schema db.trees
 sound_house db house = subst (λ h. IsSound h db.trees) house.schema house.sound
 
+-- such a table: its name, its tree and its place in the schema, which rows a house has in it, and what typed rows are made of
 pub record NamedTable (T : Type 0) : Type 0 where
   pub title : List ℕ
   pub tree : ℕ
   pub place : ℕ
   pub placed : slice_get house_schema.tables place ≡ Some (table_of (layout title tree))
-  pub over : (db : Trees) → overlay db [] tree ≡ db tree
-  pub shaped : (db : Database) → IsHouse db → IsShaped Table (db.trees tree)
+  pub table : IsTableTree tree
   pub rows : (db : Database) → IsHouse db → AllByRecursion IsRow (db.trees tree)
   pub make : ℕ → List ℕ → T
   pub number : T → ℕ
@@ -104,31 +106,24 @@ pub record AddsRow {T : Type 0} (t : NamedTable T) (number : ℕ) (name : List �
   pub rows : All (λ x. t.number x < number) (map (inside t) (old.trees t.tree)) → map (inside t) (new.trees t.tree) ≡ map (inside t) (old.trees t.tree) ++ t.make number name ∷ []
 
 module _ {T : Type 0} (t : NamedTable T) (old new : State) where
-  -- what a query shows
-  answered : (sql : List ℕ) (test : List Term) → Reads sql t.tree test → (params : Row) → IsHouse old.now → (answer : List Row) → Shown sql params old new answer
-      → answer ≡ map (shown_by shown params) (filter (passes test params) (old.now.trees t.tree))
-  answered sql test is params house answer h =
-      let read = reads_as sql params old new house_schema house.schema _ is.0 is.2 is.1 answer h in
-      in_order test shown params (old.now.trees t.tree) answer (t.shaped old.now house).0 (rw (t.over old.now.trees) at (listed t.tree test shown by_rowid (overlay old.now.trees []) params answer (read.answer Null)))
-
   pub at_lists : (sql : List ℕ) → Reads sql t.tree (equals 0 ∷ []) → (n : ℕ) → n < 2 ^ 32 → Lists old new sql (Int (pos n) ∷ []) (report t) (λ db. filter (λ x. t.number x == n) (map (inside t) (db t.tree)))
   at_lists sql is n low house answer h =
       typed_where (report t) (inside t) (λ x. t.number x == n) IsRow (equals 0 ∷ []) shown (Int (pos n) ∷ []) (old.now.trees t.tree) answer (λ r. refl)
-      (λ r row. rw (equals_number (rowid r) n row.0 low, t.numbers (number_in (rowid r)) (text_in (column r 2))) (alone _)) (t.rows old.now house) (answered sql (equals 0 ∷ []) is (Int (pos n) ∷ []) house answer h)
+      (λ r row. rw (equals_number (rowid r) n row.0 low, t.numbers (number_in (rowid r)) (text_in (column r 2))) (alone _)) (t.rows old.now house) (answered t.tree t.table old new house sql (equals 0 ∷ []) shown headings (Int (pos n) ∷ []) is.1 is.0 answer h)
 
   pub named_lists : (sql : List ℕ) → Reads sql t.tree (equals 2 ∷ []) → (name : List ℕ) → IsUtf8 name → Lists old new sql (Text name ∷ []) (report t) (λ db. filter (λ x. same_text (t.name x) name) (map (inside t) (db t.tree)))
   named_lists sql is name u house answer h =
       typed_where (report t) (inside t) (λ x. same_text (t.name x) name) IsRow (equals 2 ∷ []) shown (Text name ∷ []) (old.now.trees t.tree) answer (λ r. refl)
-      (λ r row. rw (equals_text (column r 2) name u row.1, t.names (number_in (rowid r)) (text_in (column r 2))) (alone _)) (t.rows old.now house) (answered sql (equals 2 ∷ []) is (Text name ∷ []) house answer h)
+      (λ r row. rw (equals_text (column r 2) name u row.1, t.names (number_in (rowid r)) (text_in (column r 2))) (alone _)) (t.rows old.now house) (answered t.tree t.table old new house sql (equals 2 ∷ []) shown headings (Text name ∷ []) is.1 is.0 answer h)
 
   pub all_list : (sql : List ℕ) → Reads sql t.tree [] → Lists old new sql [] (report t) (λ db. map (inside t) (db t.tree))
-  all_list sql is house answer h = typed_all (report t) (inside t) shown [] (old.now.trees t.tree) answer (λ r. refl) (answered sql [] is [] house answer h)
+  all_list sql is house answer h = typed_all (report t) (inside t) shown [] (old.now.trees t.tree) answer (λ r. refl) (answered t.tree t.table old new house sql [] shown headings [] is.1 is.0 answer h)
 
   pub adds : (sql : List ℕ) → Puts sql t.place → (number : ℕ) (name : List ℕ) (count : ℕ) → number < 2 ^ 32 → IsUtf8 name → IsHouse old.now
       → Executes sql (Int (pos number) ∷ Text name ∷ []) old new (Ok count) → AddsRow t number name old.now new.now
   adds sql is number name count low u house h =
       let rows = old.now.trees t.tree in
-      let shaped = t.shaped old.now house in
+      let shaped = t.table.shaped old.now house in
       let given : Row = Int (pos number) ∷ Null ∷ Text name ∷ [] in
       let w = rw (cast_int (pos number), cast_null) at (puts sql t.place (layout t.title t.tree) put_terms 3 (Int (pos number) ∷ Text name ∷ []) given t.placed is.0 is.1 refl old new count house.schema h) in
       record {

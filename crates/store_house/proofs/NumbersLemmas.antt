@@ -21,7 +21,7 @@ use Rattle.store_rows.proofs.CountLemmas.{counted, every}
 use Rattle.store_rows.proofs.RowLemmas.{alone}
 use Rattle.store_rows.proofs.Select.{by_rowid, in_order, listed}
 use Rattle.store_rows.proofs.Update.{none_there}
-use Rattle.store_house.specs.Numbers.{AreWithin, CountsRows, IsTableTree, ShowsNumbers, is_above, is_below, row_number}
+use Rattle.store_house.specs.Numbers.{AreWithin, CountsRows, IsTableTree, ShowsNumbers, ShowsRows, is_above, is_below, row_number}
 use Rattle.store_house.specs.Opening.{IsCount}
 use Rattle.store_house.proofs.NumberLemmas.{number_between, number_within}
 
@@ -55,22 +55,22 @@ between n low (r ∷ table) all =
     ((alone _ ∙ first.0, more.0), (alone _ ∙ first.1, more.1))
 
 module _ (tree : ℕ) (is : IsTableTree tree) (old new : State) (house : IsHouse old.now) where
-  -- what is shown
-  answered : (sql : List ℕ) (test : List Term) (params : Row) → IsPlain (understood house_schema sql) → ShowsNumbers sql tree test → (rows : List Row) → Shown sql params old new rows
-      → rows ≡ map (shown_by shown params) (filter (passes test params) (old.now.trees tree))
-  answered sql test params plain shows rows h =
+  -- what a query shows
+  pub answered : (sql : List ℕ) (test terms : List Term) (names : List (List ℕ)) (params : Row) → IsPlain (understood house_schema sql) → ShowsRows sql tree test terms names
+      → (rows : List Row) → Shown sql params old new rows → rows ≡ map (shown_by terms params) (filter (passes test params) (old.now.trees tree))
+  answered sql test terms names params plain shows rows h =
       let read = reads_as sql params old new house_schema house.schema _ shows.0 plain shows.1 rows h in
-      in_order test shown params (old.now.trees tree) rows (is.shaped old.now house).0 (rw (is.over old.now.trees) at (listed tree test shown by_rowid (overlay old.now.trees []) params rows (read.answer Null)))
+      in_order test terms params (old.now.trees tree) rows (is.shaped old.now house).0 (rw (is.over old.now.trees) at (listed tree test terms by_rowid (overlay old.now.trees []) params rows (read.answer Null)))
 
   -- where no row is shown, none passes WHERE
   pub none_pass : (sql : List ℕ) (test : List Term) (params : Row) → IsPlain (understood house_schema sql) → ShowsNumbers sql tree test → Shown sql params old new []
       → AllByRecursion (λ r. passes test params r ≡ false) (old.now.trees tree)
-  none_pass sql test params plain shows h = none_there (passes test params) (old.now.trees tree) (no_map _ _ (answered sql test params plain shows [] h))
+  none_pass sql test params plain shows h = none_there (passes test params) (old.now.trees tree) (no_map _ _ (answered sql test shown _ params plain shows [] h))
 
   -- and the other way round
   pub none_shown : (sql : List ℕ) (test : List Term) (params : Row) → IsPlain (understood house_schema sql) → ShowsNumbers sql tree test
       → AllByRecursion (λ r. passes test params r ≡ false) (old.now.trees tree) → (rows : List Row) → Shown sql params old new rows → rows ≡ []
-  none_shown sql test params plain shows none rows h = answered sql test params plain shows rows h ∙ ap (map (shown_by shown params)) (none_kept (passes test params) (old.now.trees tree) none)
+  none_shown sql test params plain shows none rows h = answered sql test shown _ params plain shows rows h ∙ ap (map (shown_by shown params)) (none_kept (passes test params) (old.now.trees tree) none)
 
   pub rows_counted : (sql : List ℕ) → IsPlain (understood house_schema sql) → CountsRows sql tree → (rows : List Row) → Shown sql [] old new rows
       → first_number rows ≡ Some (min (length (old.now.trees tree)) 9223372036854775807)

@@ -4,6 +4,7 @@ use Rattle.sqlite_schema.specs.declared.schema.Constraint.TheVariants.{Datatype,
 use Rattle.house_rows.specs.declared.people.Category.{Category}
 use Rattle.house_rows.specs.declared.people.Member.{Member}
 use Rattle.store_rows.specs.Schema.{category_table, member_table}
+use Rattle.store_house.proofs.NumbersMeaning.{category_tree, member_tree}
 use Rattle.store_house.proofs.NamedTable.{NamedTable, rows_are, sound_house}
 
 abbrev pub members : NamedTable Member
@@ -12,8 +13,7 @@ members = record {
   tree = 2;
   place = 2;
   placed = refl;
-  over = λ db. refl;
-  shaped = λ db house. house.shaped.1.1.0;
+  table = member_tree;
   rows = λ db house. rows_are member_table (db.trees 2) house.shaped.1.1.0.1 ((sound_house db house).obeys.rules Datatype).1.1.0 ((sound_house db house).obeys.rules NotNull).1.1.0;
   make = λ number name. record { member = number; name = name };
   number = λ m. m.member;
@@ -28,8 +28,7 @@ categories = record {
   tree = 4;
   place = 3;
   placed = refl;
-  over = λ db. refl;
-  shaped = λ db house. house.shaped.1.1.1.0;
+  table = category_tree;
   rows = λ db house. rows_are category_table (db.trees 4) house.shaped.1.1.1.0.1 ((sound_house db house).obeys.rules Datatype).1.1.1.0 ((sound_house db house).obeys.rules NotNull).1.1.1.0;
   make = λ number name. record { category = number; name = name };
   number = λ k. k.category;

@@ -7,4 +7,5 @@ use Rattle.store_rows.specs.House.{IsHouse}
 
 -- what a statement shows of a house are these rows of it, in this order
 abbrev pub Lists : {T : Type 0} → State → State → List ℕ → Row → (Row → T) → (Trees → List T) → Type 0
-Lists old new sql params report rows = IsHouse old.now → (answer : List Row) → Shown sql params old new answer → map report answer ≡ rows old.now.trees
+Lists old new sql params report rows = IsHouse old.now → (answer : List Row) → Shown sql params old new answer
+    → map report answer ≡ rows old.now.trees

@@ -43,12 +43,18 @@ is_below = op2 (Compare Lt Binary) (col 1 0) (lit (Int (pos 1))) ∷ []
 abbrev pub is_above : List Term
 is_above = op2 (Compare Gt Binary) (col 1 0) (col 0 0) ∷ []
 
--- a query shows the numbers of a table that pass a test, in their order
-abbrev pub ShowsNumbers : List ℕ → ℕ → List Term → Type 0
-ShowsNumbers sql tree test = (command_of (understood house_schema sql) ≡ Select (record { lets = []; body = plain_query tree test (col 1 0 ∷ []) by_rowid }) (codes "id" ∷ []))
+-- a query shows terms of the rows of a table that pass a test, in the order of their numbers
+abbrev pub ShowsRows : List ℕ → ℕ → List Term → List Term → List (List ℕ) → Type 0
+ShowsRows sql tree test shown names =
+    (command_of (understood house_schema sql) ≡ Select (record { lets = []; body = plain_query tree test shown by_rowid }) names)
     × (reads_listing house_schema sql ≡ false)
+
+-- it shows their numbers
+abbrev pub ShowsNumbers : List ℕ → ℕ → List Term → Type 0
+ShowsNumbers sql tree test = ShowsRows sql tree test (col 1 0 ∷ []) (codes "id" ∷ [])
 
 -- a query counts the rows of a table
 abbrev pub CountsRows : List ℕ → ℕ → Type 0
-CountsRows sql tree = (command_of (understood house_schema sql) ≡ Select (record { lets = []; body = count_query tree [] }) (codes "count(*)" ∷ []))
+CountsRows sql tree =
+    (command_of (understood house_schema sql) ≡ Select (record { lets = []; body = count_query tree [] }) (codes "count(*)" ∷ []))
     × (reads_listing house_schema sql ≡ false)

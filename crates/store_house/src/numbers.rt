@@ -1,5 +1,6 @@
 //! How many members, categories and items there are, whose numbers run no higher.
-ghost use Rattle.std.specs.Prelude.{◌≡◌, ◌<◌, ◌^◌, ℕ, ⊤, List, [], length, min, IfOk, OnOk, IsErrOf};
+ghost use Rattle.std.specs.Prelude.{◌≡◌, ◌<◌, ◌^◌, ℕ, ⊤, List, [], length, min};
+ghost use Rattle.std.specs.Prelude.{IfOk, OnOk, IsErrOf};
 ghost use Rattle.sqlite_value.specs.Order.{Row};
 ghost use Rattle.sqlite.specs.Given.{IsPlain};
 ghost use Rattle.sqlite.specs.Held.{state};
@@ -10,7 +11,8 @@ ghost use Rattle.house_rows.specs.declared.fault.KeepFault.TheVariants.{Damaged}
 ghost use Rattle.store_rows.specs.House.{IsHouse, Serves};
 ghost use Rattle.store_rows.specs.Counts.{most_counted};
 ghost use Rattle.store_rows.specs.Schema.{house_schema};
-ghost use Rattle.store_house.specs.Numbers.{AreWithin, CountsRows, IsTableTree, ShowsNumbers, is_above, is_below, row_number};
+ghost use Rattle.store_house.specs.Numbers.{AreWithin, CountsRows, IsTableTree, ShowsNumbers};
+ghost use Rattle.store_house.specs.Numbers.{is_above, is_below, row_number};
 ghost use Rattle.store_house.specs.Opening.{AreNumbered, HaveNumbers, IsCount};
 ghost use Rattle.store_rows.specs.Frames.{Finds, OnlyReads};
 

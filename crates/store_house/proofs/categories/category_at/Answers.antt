@@ -6,7 +6,7 @@ use Rattle.store_house.proofs.PeopleMeaning.{category_at_is}
 use Rattle.store_house.proofs.categories.category_at.Goals as goal
 
 pub row_found-requires-clause-plain : goal.row_found-requires-clause-plain
-row_found-requires-clause-plain g c = category_at_is.2
+row_found-requires-clause-plain g c = category_at_is.1
 
 pub returns-clause-finds : goal.returns-clause-finds
 returns-clause-finds g c =

@@ -4,7 +4,7 @@ use Rattle.store_house.proofs.PeopleMeaning.{all_members_are}
 use Rattle.store_house.proofs.members.all_members.Goals as goal
 
 pub rows_found-requires-clause-plain : goal.rows_found-requires-clause-plain
-rows_found-requires-clause-plain g c = all_members_are.2
+rows_found-requires-clause-plain g c = all_members_are.1
 
 pub returns-clause-finds : goal.returns-clause-finds
 returns-clause-finds g c = c.rows_found.ensures.finds _ (all_list members _ _ _ all_members_are)
