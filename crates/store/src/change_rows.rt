@@ -20,9 +20,9 @@ use sqlite::{Alter, Connection};
 use std::alloc::Global;
 use store_bids::bid;
 use store_house::{add_category, register};
-use store_items::{buy, close, list, settle};
 use store_open::set_bands;
 use store_rows::Rules;
+use store_selling::{buy, close, list, settle};
 use store_talk::{answer, ask, give_feedback};
 use store_watches::{unwatch, watch};
 

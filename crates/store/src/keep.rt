@@ -25,9 +25,10 @@ use store_house::{
     member_named,
 };
 use store_items::{
-    all_items, auction_at, due, item_at, item_with_lot, items_in, reserves_of, sales_to, terms_at,
+    all_items, auction_at, item_at, item_with_lot, items_in, reserves_of, sales_to, terms_at,
 };
 use store_rows::Rules;
+use store_selling::due;
 use store_talk::{
     all_feedback, all_published, ask_count, feedback_to, first_waiting, is_given, published_on,
     question_at, questions_of, ratings, waiting_for,

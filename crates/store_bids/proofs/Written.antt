@@ -12,12 +12,11 @@ use Rattle.house_rows.proofs.ChangedRows.{standing_number}
 use Rattle.store_rows.specs.House.{AddsBid, SetsClock}
 use Rattle.store_rows.specs.ItemRows.{item_row_in}
 use Rattle.store_rows.specs.Rows.{reserve_in}
-use Rattle.store_items.specs.Items.{OfItem, SetsStanding}
+use Rattle.store_items.specs.Items.{OfItem, SetsStanding, StartsAt}
 use Rattle.store_rows.specs.Tables.{Changes, IsNumbered}
-use Rattle.store_items.specs.Sales.{StartsAt}
 use Rattle.store_rows.proofs.Made.{same_reserves}
 use Rattle.store_bids.proofs.Added.{bid_added}
-use Rattle.store_items.proofs.Sold.{items_then_clock}
+use Rattle.store_items.proofs.ItemsSet.{items_then_clock}
 
 -- a bid leaves the items and the reserves
 still_of_item : (item : ℕ) (P : ItemRow → Type 0) (old new : Database) → new.trees 6 ≡ old.trees 6 → new.trees 23 ≡ old.trees 23 → OfItem item P old → OfItem item P new

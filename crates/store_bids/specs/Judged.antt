@@ -11,7 +11,7 @@ use Rattle.house_rows.specs.Tables.{band_tables}
 use Rattle.store_rows.specs.ItemRows.{items_in}
 use Rattle.store_rows.specs.Tables.{tables_in}
 use Rattle.store_items.specs.ConsistentRows.{HasStandingItem, RowFitsAt}
-use Rattle.store_items.specs.Sales.{StartsAt}
+use Rattle.store_items.specs.Items.{StartsAt}
 
 -- there is the item, and its bids begin with that opening
 pub record BeginsThere (editions : BandTables) (item : ℕ) (opening : Opening) (db : Trees) : Type 0 where

@@ -1,17 +1,18 @@
 -- What the tables of a house are after a write of items.
-use Rattle.std.proofs.Common.{◌≡◌, ◌≤◌, ℕ, List, map, length, refl, sym, subst, arith}
+use Rattle.std.proofs.Common.{◌≡◌, ◌≤◌, ℕ, List, map, length, refl, ap, sym, subst, ◌∙◌, arith}
 use Rattle.std.specs.Prelude.{All}
 use Rattle.std.proofs.lemmas.List.{length-map}
 use Rattle.std.proofs.lemmas.List.Elements.{All-map, All-weaker}
 use Rattle.sqlite_value.specs.Order.{Row}
 use Rattle.sqlite.specs.Effect.{Database}
-use Rattle.house_rows.specs.Tables.{ItemRow}
+use Rattle.house_rows.specs.Tables.{ItemRow, Tables}
 use Rattle.store_rows.specs.declared.reserve.ReserveRow.{ReserveRow}
 use Rattle.store_rows.specs.ItemRows.{items_in}
 use Rattle.store_rows.specs.Rows.{reserve_in, reserves_in}
 use Rattle.store_rows.specs.Tables.{IsNumbered, house_row_in, settings_in, tables_in}
-use Rattle.store_rows.proofs.Clock.{Holds}
-use Rattle.store_items.specs.Sales.{SetsItems}
+use Rattle.store_rows.specs.House.{SetsClock}
+use Rattle.store_rows.proofs.Clock.{Holds, clock_set}
+use Rattle.store_items.specs.Items.{SetsItems}
 
 -- a change of the items that leaves their numbers
 pub items_set : (f : ItemRow → ItemRow) (old new : Database) → ((row : ItemRow) → (f row).item.terms.item ≡ row.item.terms.item) → IsNumbered old.trees → SetsItems f old new
@@ -48,3 +49,11 @@ items_set f old new same numbered w =
         later_bands = rw (editions, later_bands) numbered.later_bands;
       };
     }
+
+-- the items changed, then the clock set
+pub items_then_clock : (f : ItemRow → ItemRow) (moment : ℕ) (old mid new : Database) → ((row : ItemRow) → (f row).item.terms.item ≡ row.item.terms.item) → IsNumbered old.trees → SetsItems f old mid → SetsClock moment mid new
+    → Holds (record (tables_in old.trees) { clock = moment; items = map f (tables_in old.trees).items }) new
+items_then_clock f moment old mid new same numbered sets clock =
+    let one = items_set f old mid same numbered sets in
+    let two = clock_set moment mid new one.numbered clock in
+    record { tables = two.tables ∙ ap (λ (t : Tables). record t { clock = moment }) one.tables; numbered = two.numbered }

@@ -3,6 +3,7 @@ use Rattle.std.specs.Prelude.{◌≡◌, ◌≤◌, ◌<◌, ℕ, true, Bool, if
 use Rattle.sqlite_trees.specs.Tree.{Trees}
 use Rattle.sqlite.specs.Effect.{Database}
 use Rattle.proxy.specs.Kept.{Kept, opening_of}
+use Rattle.proxy.specs.Opening.{Opening}
 use Rattle.house_rows.specs.Changed.{is_item, with_terms, with_standing, with_purchase, with_settlement}
 use Rattle.house_rows.specs.Items.{closed_state}
 use Rattle.house_rows.specs.Limits.{most_cents}
@@ -10,6 +11,12 @@ use Rattle.house_rows.specs.Tables.{ItemRow}
 use Rattle.store_rows.specs.House.{IsHouse, KeepsOthers}
 use Rattle.store_rows.specs.ItemRows.{items_in}
 use Rattle.store_rows.specs.Rows.{reserves_in}
+
+-- every item is made another, and the other tables are as they were
+pub record SetsItems (f : ItemRow → ItemRow) (old new : Database) : Type 0 where
+  pub house : IsHouse new
+  pub others : KeepsOthers 6 old new
+  pub items : items_in new.trees ≡ map f (items_in old.trees)
 
 -- one more item without a reserve, the last where its number is over every other, that of each reserve among them
 pub record AddsItem (row : ItemRow) (old new : Database) : Type 0 where
@@ -25,6 +32,10 @@ OfItemIn item P db = All (λ row. is_item item row ≡ true → P row) (items_in
 
 abbrev pub OfItem : ℕ → (ItemRow → Type 0) → Database → Type 0
 OfItem item P db = OfItemIn item P db.trees
+
+-- the bids begin with that opening
+abbrev pub StartsAt : Opening → ItemRow → Type 0
+StartsAt opening row = opening_of row.standing ≡ opening
 
 -- the item has the standing that its bids now have, if start and reserve are its own, and who leads
 -- has a top

@@ -58,7 +58,7 @@ fn stored_text(text: &Text) -> &str
 
 /// Adds an item with a number and an end, open, with no bid and without its reserve, within a
 /// transaction.
-pub(crate) fn put_item<S: Alter>(
+pub fn put_item<S: Alter>(
     tx: &mut Transaction<'_, S>,
     number: u32,
     item: &NewItem<'_>,
@@ -120,7 +120,7 @@ pub fn set_standing<S: Alter>(
 
 /// Sells an item at once, within a transaction. The moment is in seconds since
 /// 1970-01-01T00:00:00Z.
-pub(crate) fn set_bought<S: Alter>(
+pub fn set_bought<S: Alter>(
     tx: &mut Transaction<'_, S>,
     item: u32,
     buyer: u32,
@@ -152,7 +152,7 @@ fn closed_state(is_sold: bool) -> u32
 }
 
 /// Closes an item at its end within a transaction, as sold or unsold.
-pub(crate) fn set_closed<S: Alter>(
+pub fn set_closed<S: Alter>(
     tx: &mut Transaction<'_, S>,
     item: u32,
     is_sold: bool,
@@ -175,7 +175,7 @@ pub(crate) fn set_closed<S: Alter>(
 }
 
 /// Settles the sale of an item within a transaction.
-pub(crate) fn set_settled<S: Alter>(tx: &mut Transaction<'_, S>, item: u32) -> Result<(), KeepFault>
+pub fn set_settled<S: Alter>(tx: &mut Transaction<'_, S>, item: u32) -> Result<(), KeepFault>
     requires { IsBegun (state S.Store tx.old.conn.now) }
     ensures same_reference { tx.new.conn.ghost_name ≡ tx.old.conn.ghost_name }
     ensures ok { HasCleanDisk (state S.Store tx.new.conn.now)

@@ -1,36 +1,24 @@
-//! Items in SQLite, and their sales.
+//! Items in SQLite: their look-ups and lists, the sales of a member, and the writes of their rows.
 //!
 //! Promised: each look-up and list answers what the house's definitions find in the tables that the
-//! database holds, an item that is handed out is consistent, and a listing, a purchase, a close and
-//! a settlement are made whole, each in one transaction that commits before the call answers Ok, or
-//! not at all. Read `specs/Items.antt` first, then `settlement`, the plainest of the changes.
+//! database holds, an item that is handed out is consistent, and each write makes of the rows what
+//! `specs/Items.antt` says, which is to be read first.
 //!
-//! What a write asks of the stored row is looked up before the transaction, and where it isn't so
-//! the answer is Damaged.
+//! A write is made within a transaction of its caller, who has looked up what it asks of the stored
+//! row.
 #![tactic(auto)]
 
-mod auction_end;
-mod due_items;
 mod item;
 mod item_reads;
-mod listing;
 mod own_reserves;
 mod pages;
-mod purchase;
 mod reads;
 mod sales;
-mod settlement;
-mod sold_rule;
 mod terms;
 
-pub use auction_end::close;
-pub use due_items::due;
-pub use item::set_standing;
+pub use item::{put_item, set_bought, set_closed, set_settled, set_standing};
 pub use item_reads::{all_items, auction_at, auction_there, item_at, item_with_lot, terms_at};
-pub use listing::list;
 pub use own_reserves::reserves_of;
 pub use pages::items_in;
-pub use purchase::buy;
 pub use sales::sales_to;
-pub use settlement::settle;
-pub use terms::terms_of_seller;
+pub use terms::{due_terms, terms_of_seller};

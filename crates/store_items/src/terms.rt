@@ -70,7 +70,7 @@ pub(crate) fn terms_led_by<S: Alter>(
 
 /// The open items whose end is at or before a moment, without their texts. The moment is in seconds
 /// since 1970-01-01T00:00:00Z.
-pub(crate) fn due_terms<S: Alter>(
+pub fn due_terms<S: Alter>(
     alloc: Global,
     conn: &mut Connection<S>,
     rules: &Rules,

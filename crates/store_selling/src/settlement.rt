@@ -1,0 +1,93 @@
+//! A settlement.
+ghost use Rattle.std.specs.Prelude.{◌≡◌, ◌<◌, ◌^◌, false, OnOk, IsErrOf};
+ghost use Rattle.sqlite.specs.State.{HasCleanDisk};
+ghost use Rattle.sqlite.specs.Held.{state};
+ghost use Rattle.house_rows.specs.Tables.{band_tables};
+ghost use Rattle.house_rows.specs.Asks.{ChangeFits};
+ghost use Rattle.house_rows.specs.declared.change.Change.TheVariants.{Settle};
+ghost use Rattle.house_rows.specs.declared.fault.KeepFault.TheVariants.{Damaged};
+ghost use Rattle.store_rows.specs.House.{IsBegun, ServesBy};
+ghost use Rattle.store_items.specs.Items.{OfItem};
+ghost use Rattle.store_rows.specs.Rows.{reserves_in};
+ghost use Rattle.store_rows.specs.Tables.{Changes, IsNumbered, Rests, tables_in};
+ghost use Rattle.store_items.specs.ConsistentRows.{HasStandingItem, RowFitsAt};
+ghost use Rattle.store_selling.specs.Sales.{StartFits};
+ghost use Rattle.store_rows.specs.Frames.{Finds, WritesMany};
+ghost use Rattle.store_rows.specs.Commits.{Commits};
+ghost use Rattle.store_items.specs.LookUps.{ItemFitsThere};
+ghost use Rattle.store_selling.specs.LookUps.{HasStartingItem};
+
+use house_rows::KeepFault;
+use sqlite::{Alter, Connection, Transaction};
+use store_items::{auction_there, set_settled};
+use store_rows::{Rules, commit, set_clock, stored_moment};
+
+// Whether the row of an item fits; Damaged where there is none.
+fn check_terms<S: Alter>(
+    conn: &mut Connection<S>,
+    rules: &Rules,
+    item: u32,
+) -> Result<(), KeepFault>
+    requires { ServesBy rules.now.reserves (state S.Store conn.old) }
+    ensures { Finds S.Store conn.old conn.new result
+        (λ db _. HasStartingItem rules.now.editions item db)
+        (ItemFitsThere rules.now.editions item) }
+{
+    auction_there(conn, rules, item)?;
+    Ok(())
+}
+
+// Settles the sale and sets the clock, within a transaction.
+fn write_settlement<S: Alter>(
+    tx: &mut Transaction<'_, S>,
+    moment: u32,
+    item: u32,
+) -> Result<(), KeepFault>
+    requires begun { IsBegun (state S.Store tx.old.conn.now) }
+    requires numbered { HasCleanDisk (state S.Store tx.old.conn.now)
+        → IsNumbered (state S.Store tx.old.conn.now).now.trees }
+    requires fits { HasCleanDisk (state S.Store tx.old.conn.now)
+        → OfItem item StartFits (state S.Store tx.old.conn.now).now }
+    ensures same_reference { tx.new.conn.ghost_name ≡ tx.old.conn.ghost_name }
+    ensures ok { HasCleanDisk (state S.Store tx.new.conn.now)
+        → OnOk result (Changes (Settle moment item) (state S.Store tx.old.conn.now).now
+        (state S.Store tx.new.conn.now).now) }
+    ensures sound { ¬ (IsErrOf result Damaged) }
+    ensures write { WritesMany (state S.Store tx.old.conn.now)
+        (state S.Store tx.new.conn.now) result }
+{
+    set_settled(tx, item)?;
+    set_clock(tx, moment)
+}
+
+/// Settles the sale of an item. The moment is in seconds since 1970-01-01T00:00:00Z, the band
+/// tables are those of the house. Damaged where there is no such item, where its row doesn't fit,
+/// or where the moment has more than 32 bits.
+pub fn settle<S: Alter>(
+    conn: &mut Connection<S>,
+    rules: &Rules,
+    moment: u64,
+    item: u32,
+) -> Result<(), KeepFault>
+    requires rests { Rests (state S.Store conn.old) }
+    requires mode { conn.old.in_transaction ≡ false }
+    requires editions { HasCleanDisk (state S.Store conn.old)
+        → rules.now.editions ≡ band_tables (tables_in (state S.Store conn.old).now.trees) }
+    requires reserves { HasCleanDisk (state S.Store conn.old)
+        → rules.now.reserves ≡ reserves_in (state S.Store conn.old).now.trees }
+    ensures commit { Commits (Settle moment item) (state S.Store conn.old)
+        (state S.Store conn.new) result }
+    ensures there { HasCleanDisk (state S.Store conn.new)
+        → OnOk result (HasStandingItem rules.now.editions (state S.Store conn.old).now.trees item) }
+    ensures moment { OnOk result (moment < 2 ^ 32) }
+    ensures damaged { HasCleanDisk (state S.Store conn.new)
+        → RowFitsAt rules.now.editions (state S.Store conn.old).now.trees item
+        → ChangeFits (tables_in (state S.Store conn.old).now.trees) (Settle moment item)
+        → ¬ (IsErrOf result Damaged) }
+{
+    let moment = stored_moment(moment)?;
+    check_terms(conn, rules, item)?;
+    let mut tx = conn.transaction();
+    write_settlement(&mut tx, moment, item)?;
+    commit(tx)
+}
