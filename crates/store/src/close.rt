@@ -1,11 +1,12 @@
 //! How a keep in a file ends.
-ghost use Rattle.std.specs.Prelude.{◌≢◌, IsErrOf, OnErr, OnOk};
+ghost use Rattle.std.specs.Prelude.{◌≡◌, ◌≢◌, IsErrOf, OnErr, OnOk};
 ghost use Rattle.house_rows.specs.declared.fault.KeepFault.TheVariants.{Damaged};
 ghost use Rattle.store.specs.Closing.{IsEnded, IsLeft};
+ghost use Rattle.store.specs.Kept.{IsKept};
 
 use crate::keep::SqlKeep;
 use house_rows::{Ends, KeepFault};
-use sqlite::{Error, ErrorCode, FileStore};
+use sqlite::{Alter, Connection, Error, ErrorCode, FileStore};
 use sqlite_disk::{Disk, Files};
 
 // Which fault it is that a file can't be closed.
@@ -15,6 +16,17 @@ fn close_fault(error: &Error) -> KeepFault
     match error {
         Error::SqliteFailure(ErrorCode::OutOfMemory) => KeepFault::Memory,
         _ => KeepFault::Store,
+    }
+}
+
+impl<S: Alter + Drop> SqlKeep<S> {
+    /// The connection of the keep, which ends so.
+    pub fn into_connection(self) -> Connection<S>
+        ensures conn { result ≡ self.conn }
+        ensures kept { IsKept S.Store self }
+    {
+        let SqlKeep { conn, .. } = self;
+        conn
     }
 }
 
