@@ -64,7 +64,7 @@ module _ {D : Type 0} {g : Ghosts D} (before : House (Renumbered (FileStore D g)
       (shown_house below may).sound.lists.listed)
 
   module _ (opened : State) (found : FindsIn left opened) where
-    recovered : ∥ recovers it opened.committed.trees ∥₁
+    pub recovered : ∥ recovers it opened.committed.trees ∥₁
     recovered = next_run it crashed.numbered inner_databases left (may_leave_of it crashed.honest left crashed.left_so) opened found
 
     pub found_left : ∥ MayLeave over_order before (tables_held opened.committed.trees) ∥₁

@@ -1,33 +1,115 @@
--- A keep over two files whose trees are shown in the order of a house, and what a crash leaves of it. Start here.
-use Rattle.std.specs.Prelude.{IsTrue}
+-- A keep over two files whose trees are shown in the order of a house: what an opening of such
+-- files takes, and what a crash leaves of them. Start here.
+use Rattle.std.specs.Prelude.{◌≡◌, ◌⊎◌, IsTrue, []}
 use Rattle.sqlite_disk.specs.declared.Disk as disk
+use Rattle.sqlite_disk.specs.declared.Files.{Files}
 use Rattle.sqlite_wal.specs.Files.{outcomes}
 use Rattle.sqlite_wal.specs.Recovery.{Image}
+use Rattle.sqlite_trees.specs.Tree.{Trees}
 use Rattle.sqlite_trees.specs.declared.store.Store.{Ghosts}
-use Rattle.sqlite_store.specs.FileStore.{files, view}
+use Rattle.sqlite_store.specs.FileStore.{files, recovers, view}
 use Rattle.sqlite_store.specs.declared.store.FileStore.{FileStore}
-use Rattle.sqlite.specs.Files.{over_files}
+use Rattle.sqlite.specs.Effect.{Database}
+use Rattle.sqlite.specs.Files.{HoldsDatabase, LeavesFiles, over_files}
 use Rattle.sqlite.specs.Held.{Held, state}
 use Rattle.sqlite.specs.State.{State}
+use Rattle.sqlite.specs.declared.file.Leftover.{Leftover}
+use Rattle.sqlite.specs.declared.file.Leftover.TheVariants as left
+use Rattle.house_rows.specs.Tables.{tables_of}
+use Rattle.house_rows.specs.declared.settings.Settings.{Settings}
 use Rattle.tree_order.specs.declared.renumbered.Renumbered.{Renumbered}
+use Rattle.store_rows.specs.Tables.{IsAtRest}
+use Rattle.store_house.specs.Named.{HoldsHouse, IsArranged, IsReordered, tables_held}
+use Rattle.store_house.specs.Opening.{IsSoundHouse, NewHouse}
 use Rattle.store_house.specs.Over.{over_numbers}
-use Rattle.store.specs.Kept.{House, IsHonest, LeavesHouses}
+use Rattle.store.specs.Kept.{House, IsHonest, LeavesHouses, MayLeave, content}
+use Rattle.store.specs.Opening.{IsFound, LeavesFilesMade}
 
 -- what the store of a keep in order is to its callers
 abbrev pub over_order : {D : Type 0} {g : disk.Ghosts D} → Ghosts (Renumbered (FileStore D g))
 over_order = over_numbers over_files
 
-abbrev pub order_state : {D : Type 0} {g : disk.Ghosts D} → Held (Renumbered (FileStore D g)) → State
+abbrev pub order_state : {D : Type 0} {g : disk.Ghosts D} → Held (Renumbered (FileStore D g))
+    → State
 order_state = state over_order
 
--- a crash at this moment may leave this of the log and of the database file of a keep
-abbrev pub MayCrashTo : {D : Type 0} {g : disk.Ghosts D} → House (Renumbered (FileStore D g)) → Image → Type 0
-MayCrashTo {D} {g} k = outcomes g (files k.conn.store.inner).0 (files k.conn.store.inner).1
+-- ---- what two files hold
 
--- What a crash has left of the files of a keep whose disk was honest so far. The first two are so of every keep: the kit's
--- `Connection` keeps the one of its store, and the keep the other.
-pub record IsCrashed {D : Type 0} (g : disk.Ghosts D) (before : House (Renumbered (FileStore D g))) (left : Image) : Type 0 where
+-- a database holds a house in any order that an opening takes
+abbrev pub HoldsSound : Trees → Type 0
+HoldsSound below = (db : Database) × IsSoundHouse db × IsArranged below db.trees
+
+-- and so do two files
+abbrev pub HoldsSoundHouse : Image → Type 0
+HoldsSoundHouse image = (below : Trees) × HoldsDatabase image below × HoldsSound below
+
+-- a keep has the tables that the names find in what two files hold
+abbrev pub HasTablesHeld : {D : Type 0} {g : disk.Ghosts D} → Image
+    → House (Renumbered (FileStore D g)) → Type 0
+HasTablesHeld image keep = IsHonest over_order keep → (db : Trees) → HoldsDatabase image db
+    → content over_order keep ≡ tables_held db
+
+-- ---- what is left of files after a call that failed
+
+-- These are the trees of a database, in its order or in another one. Where it holds a house, the
+-- names find the same tables.
+pub record HasTrees (held found : Trees) : Type 0 where
+  pub order : IsReordered held found
+  pub tables : HoldsHouse held → tables_held found ≡ tables_held held
+
+-- The files hold what they held; or a crash finds it in a store over them, in its order or in
+-- another one.
+abbrev pub LeavesFilesInOrder : {D : Type 0} {g : disk.Ghosts D} → Files D → Leftover D g → Type 0
+LeavesFilesInOrder {D} {g} files rest = LeavesFiles files rest
+    ⊎ ((store : FileStore D g) × (rest ≡ left.Store store)
+    × ((found : Trees) → recovers store found
+    → (held : Trees) × IsFound g files held × HasTrees held found))
+
+-- These are the trees of a new house, in its order or in another one, and the names find its
+-- tables.
+pub record HasNewHouse (settings : Settings) (found : Trees) : Type 0 where
+  pub house : Trees
+  pub new : NewHouse settings house
+  pub order : IsReordered house found
+  pub tables : tables_held found ≡ tables_of settings []
+
+-- What is left of files that a call would have made a house in: they hold what they held, or a
+-- crash finds that or the new house in a store over them; or it finds the new house, in its order
+-- or in another one.
+abbrev pub LeavesFilesNew : {D : Type 0} {g : disk.Ghosts D} → Settings → Files D → Leftover D g
+    → Type 0
+LeavesFilesNew {D} {g} settings files rest = LeavesFilesMade settings files rest
+    ⊎ ((store : FileStore D g) × (rest ≡ left.Store store)
+    × ((found : Trees) → recovers store found → HasNewHouse settings found))
+
+-- ---- from one run to the next
+
+-- a crash at this moment may leave this of the log and of the database file of a keep
+abbrev pub MayCrashTo : {D : Type 0} {g : disk.Ghosts D} → House (Renumbered (FileStore D g))
+    → Image → Type 0
+MayCrashTo {D} {g} k =
+    outcomes g (files k.conn.store.inner).0 (files k.conn.store.inner).1
+
+-- What a crash has left of the files of a keep whose disk was honest so far. The first two are so
+-- of every keep: the kit's `Connection` keeps the one of its store, and the keep the other.
+pub record IsCrashed {D : Type 0} (g : disk.Ghosts D) (before : House (Renumbered (FileStore D g)))
+    (left : Image) : Type 0 where
   pub numbered : IsTrue (view before.conn.store.inner).is_numbered
   pub houses : LeavesHouses (order_state before.conn)
   pub honest : IsHonest over_order before
   pub left_so : MayCrashTo before left
+
+-- a crash may leave a database of which these trees are the house, by its names
+abbrev pub MayShow : {D : Type 0} {g : disk.Ghosts D} → House (Renumbered (FileStore D g)) → Trees
+    → Type 0
+MayShow k shown =
+    (below : Trees) × recovers k.conn.store.inner below × IsArranged below shown
+
+-- A keep that was opened has the tables of one of the databases that a crash may leave of another
+-- keep, and shows one by its names; of a keep at rest, it has its tables.
+pub record FindsLeft {D : Type 0} (g : disk.Ghosts D)
+    (before after : House (Renumbered (FileStore D g))) : Type 0 where
+  pub tables : ∥ MayLeave over_order before (content over_order after) ∥₁
+  pub trees : ∥ MayShow before (order_state after.conn).now.trees ∥₁
+  pub same : IsAtRest (order_state before.conn)
+      → content over_order after ≡ content over_order before

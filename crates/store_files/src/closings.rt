@@ -1,0 +1,63 @@
+//! A connection over two files is closed.
+ghost use Rattle.std.specs.Prelude.{◌≡◌, ◌≢◌, IfErr, IfOk, IsTrue};
+ghost use Rattle.house_rows.specs.declared.fault.KeepFault.TheVariants.{Damaged};
+ghost use Rattle.sqlite_store.specs.FileStore.{faults, files as store_files, is_shielded, recovers, view};
+ghost use Rattle.sqlite_store.specs.declared.store.FileStore.{FileStore};
+ghost use Rattle.sqlite_trees.specs.View.{IsQuiet};
+ghost use Rattle.sqlite_wal.specs.Reads.{AreClean};
+ghost use Rattle.store.specs.Kept.{LeavesHouses};
+ghost use Rattle.store_files.specs.Closing.{IsClosed, IsCopied, IsEmptied};
+ghost use Rattle.store_files.specs.InOrder.{order_state};
+
+use house_rows::KeepFault;
+use sqlite::{Connection, FileStore};
+use sqlite_disk::{Disk, Files};
+use sqlite_trees::error::StoreError;
+use sqlite_trees::store::Store;
+use tree_order::Renumbered;
+
+// Which fault it is that a store can't be closed.
+fn close_fault(error: StoreError) -> KeepFault
+    ensures { result ≢ Damaged }
+{
+    match error {
+        StoreError::OutOfMemory => KeepFault::Memory,
+        _ => KeepFault::Store,
+    }
+}
+
+// Copies the log of a store into its database file, less what is not committed, and gives both back.
+fn close_store<D: Disk + Drop>(store: FileStore<D>) -> Result<Files<D>, (KeepFault, FileStore<D>)>
+    ensures emptied { IfOk result (λ files. (last : FileStore D D.Disk)
+        × (store_files last ≡ (files.log, files.db)) × IsEmptied store last) }
+    ensures usable { IfOk result (λ files. IsTrue (D.Disk.is_usable files.log)
+        × IsTrue (D.Disk.is_usable files.db)) }
+    ensures left { IfErr result (λ e. IsQuiet view faults recovers is_shielded store e.1) }
+    ensures sound { IfErr result (λ e. e.0 ≢ Damaged) }
+{
+    let mut store = store;
+    store.rollback();
+    match store.checkpoint() {
+        Ok(()) => Ok(store.close()),
+        Err(error) => Err((close_fault(error), store)),
+    }
+}
+
+/// Closes a connection over two files that shows a house in order, and gives the files back. What it
+/// has not committed is undone. The database file then holds the house alone, with no need of its
+/// log, in the order that it had there.
+///
+/// After an error the store is given back: a crash finds nothing that it could not have found before.
+pub fn close_connection<D: Disk + Drop>(
+    conn: Connection<Renumbered<FileStore<D>>>,
+) -> Result<Files<D>, (KeepFault, FileStore<D>)>
+    requires { LeavesHouses (order_state conn) }
+    ensures copied { IfOk result (λ files. AreClean D.Disk files.log files.db
+        → IsCopied conn files) }
+    ensures usable { IfOk result (λ files. IsTrue (D.Disk.is_usable files.log)
+        × IsTrue (D.Disk.is_usable files.db)) }
+    ensures left { IfErr result (λ e. IsClosed conn e.1) }
+    ensures sound { IfErr result (λ e. e.0 ≢ Damaged) }
+{
+    close_store(conn.into_store().into_inner())
+}

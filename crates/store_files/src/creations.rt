@@ -1,0 +1,53 @@
+//! A house is made in two files.
+ghost use Rattle.std.specs.Prelude.{◌≡◌, [], false, true, IfErr, IfOk};
+ghost use Rattle.house_rows.specs.Tables.{Tables, tables_of};
+ghost use Rattle.house_rows.specs.Text.{is_plain};
+ghost use Rattle.sqlite.specs.Files.{IsCleanLeft, image_of};
+ghost use Rattle.sqlite_wal.specs.Reads.{AreClean};
+ghost use Rattle.store_house.specs.Opening.{IsSoundHouse};
+ghost use Rattle.store.specs.Kept.{IsHonest, MayLeave, content, is_failed};
+ghost use Rattle.store.specs.Opening.{HoldsNoTable};
+ghost use Rattle.store_files.specs.InOrder.{LeavesFilesNew, order_state, over_order};
+
+use crate::openings::{connect, open_by_names};
+use house_rows::{KeepFault, Settings};
+use sqlite::{FileStore, Leftover, Options};
+use sqlite_disk::{Disk, Files};
+use std::alloc::Global;
+use store::SqlKeep;
+use store_house::make_house;
+use tree_order::Renumbered;
+
+/// Makes the keep of a house to which nothing has happened yet in a log and a database file that
+/// hold no table.
+///
+/// `Damaged` where they hold one, or hold no database, or the zone has control characters. After an
+/// error what is left of the files is given back: they hold what they held, or the new house.
+pub fn create_files<D: Disk + Drop>(
+    alloc: Global,
+    files: Files<D>,
+    options: Options,
+    settings: &Settings,
+) -> Result<SqlKeep<Renumbered<FileStore<D>>>, (KeepFault, Leftover<D>)>
+    ensures honest { IfOk result (λ k. IsHonest over_order k
+        → AreClean D.Disk files.log files.db) }
+    ensures blank { IfOk result (λ k. IsHonest over_order k
+        → HoldsNoTable (image_of D.Disk files)) }
+    ensures empty { IfOk result (λ k. IsHonest over_order k
+        → content over_order k ≡ tables_of settings.now []) }
+    ensures opens { IfOk result (λ k. IsHonest over_order k → is_plain settings.now.zone ≡ true
+        → IsSoundHouse (order_state k.conn).now) }
+    ensures only { IfOk result (λ k. IsHonest over_order k → (tables : Tables)
+        → MayLeave over_order k tables → tables ≡ content over_order k) }
+    ensures works { IfOk result (λ k. is_failed k ≡ false) }
+    ensures left { IfErr result (λ e. IsCleanLeft e.1 → LeavesFilesNew settings.now files e.1) }
+{
+    let mut conn = connect(alloc, files, options)?;
+    match make_house(&mut conn, settings) {
+        Ok(()) => match open_by_names(alloc, conn) {
+            Ok(house) => Ok(SqlKeep::of_house(alloc, house)),
+            Err((fault, store)) => Err((fault, Leftover::Store(store.into_inner()))),
+        },
+        Err(fault) => Err((fault, Leftover::Store(conn.into_store()))),
+    }
+}
