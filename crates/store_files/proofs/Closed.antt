@@ -19,12 +19,18 @@ use Rattle.sqlite.specs.Held.{AreDatabases, Held}
 use Rattle.sqlite.specs.State.{HasCleanDisk}
 use Rattle.tree_order.specs.Shown.{shown_trees}
 use Rattle.tree_order.specs.declared.renumbered.Renumbered.{Renumbered}
+use Rattle.store_rows.specs.House.{IsHouse}
 use Rattle.store_rows.specs.Schema.{house_schema}
 use Rattle.store_house.specs.Named.{IsReordered}
 use Rattle.store.specs.Kept.{LeavesHouses}
 use Rattle.store_files.proofs.Opened.{found_in_order}
 use Rattle.store_files.specs.Closing.{IsClosed, IsCopied, IsEmptied}
 use Rattle.store_files.specs.InOrder.{order_state, over_order}
+
+-- a crash may leave what was committed
+pub stays_shown : {D : Type 0} {g : disk.Ghosts D} (conn : Held (Renumbered (FileStore D g))) → SeenMayStay g → IsTrue (order_state conn).is_open
+    → (order_state conn).may_leave (order_state conn).committed.trees
+stays_shown conn stays is_open = ((view conn.store.inner).committed, stays_at conn.store.inner stays is_open, refl)
 
 module _ {D : Type 0} {g : disk.Ghosts D} (conn : Held (Renumbered (FileStore D g))) (back : Renumbered (FileStore D g))
     (houses : LeavesHouses (order_state conn))
@@ -71,16 +77,19 @@ module _ {D : Type 0} {g : disk.Ghosts D} (conn : Held (Renumbered (FileStore D 
       let shown : (order_state conn).committed.trees ≡ shown_trees back.numbers db =
       sym (kept.committed was) ∙ ap (shown_trees back.numbers) (sym (emptied.committed clean)) in
       let order : IsReordered db (order_state conn).committed.trees = subst (IsReordered db) (sym shown) (order_of db) in
+      let was_open : IsTrue (order_state conn).is_open = kept.was_open was in
+      let was_clean : HasCleanDisk (order_state conn) = omega (arith, quiet.clean, early) in
+      let house : IsHouse (record { schema = house_schema; trees = (order_state conn).committed.trees }) = houses was_clean _ (stays_shown conn stays was_open) in
       let sound : AreDatabases (recovers last) = λ found may. databases early found (emptied.quiet.outcomes found may) in
       let each = λ (image : Image) (may : outcomes g files.log files.db image).
       copied last stays on (emptied.numbered clean ∙ numbered early) sound (emptied.empty clean) image
       (may_leave_is last.pool image sure_now (subst (λ (p : D × D). outcomes g p.0 p.1 image) (sym are) may)) in
       record {
-        was_clean = omega (arith, quiet.clean, early);
-        was_open = kept.was_open was;
+        was_clean = was_clean;
+        was_open = was_open;
         db = db;
         order = order;
-        tables = λ house. found_in_order db (order_state conn).committed (list_shaped last db (stays_at last stays on)) order house;
+        tables = found_in_order db (record { schema = house_schema; trees = (order_state conn).committed.trees }) (list_shaped last db (stays_at last stays on)) order house;
         seen = each _ (stays _, stays _);
         left = each;
       }

@@ -1,12 +1,13 @@
-//! A connection over two files is closed.
-ghost use Rattle.std.specs.Prelude.{◌≡◌, ◌≢◌, IfErr, IfOk, IsTrue};
+//! A connection over two files is closed, and a keep ended.
+ghost use Rattle.std.specs.Prelude.{◌≡◌, ◌≢◌, IfErr, IfOk, IsErrOf, IsTrue, OnErr, OnOk};
 ghost use Rattle.house_rows.specs.declared.fault.KeepFault.TheVariants.{Damaged};
-ghost use Rattle.sqlite_store.specs.FileStore.{faults, files as store_files, is_shielded, recovers, view};
+ghost use Rattle.sqlite_store.specs.FileStore.{faults, files as store_files, is_shielded};
+ghost use Rattle.sqlite_store.specs.FileStore.{recovers, view};
 ghost use Rattle.sqlite_store.specs.declared.store.FileStore.{FileStore};
 ghost use Rattle.sqlite_trees.specs.View.{IsQuiet};
 ghost use Rattle.sqlite_wal.specs.Reads.{AreClean};
 ghost use Rattle.store.specs.Kept.{LeavesHouses};
-ghost use Rattle.store_files.specs.Closing.{IsClosed, IsCopied, IsEmptied};
+ghost use Rattle.store_files.specs.Closing.{IsClosed, IsCopied, IsEmptied, IsEnded, IsLeft};
 ghost use Rattle.store_files.specs.InOrder.{order_state};
 
 use house_rows::KeepFault;
@@ -14,6 +15,7 @@ use sqlite::{Connection, FileStore};
 use sqlite_disk::{Disk, Files};
 use sqlite_trees::error::StoreError;
 use sqlite_trees::store::Store;
+use store::SqlKeep;
 use tree_order::Renumbered;
 
 // Which fault it is that a store can't be closed.
@@ -26,7 +28,8 @@ fn close_fault(error: StoreError) -> KeepFault
     }
 }
 
-// Copies the log of a store into its database file, less what is not committed, and gives both back.
+// Copies the log of a store into its database file, less what is not committed, and gives both
+// back.
 fn close_store<D: Disk + Drop>(store: FileStore<D>) -> Result<Files<D>, (KeepFault, FileStore<D>)>
     ensures emptied { IfOk result (λ files. (last : FileStore D D.Disk)
         × (store_files last ≡ (files.log, files.db)) × IsEmptied store last) }
@@ -43,11 +46,12 @@ fn close_store<D: Disk + Drop>(store: FileStore<D>) -> Result<Files<D>, (KeepFau
     }
 }
 
-/// Closes a connection over two files that shows a house in order, and gives the files back. What it
-/// has not committed is undone. The database file then holds the house alone, with no need of its
-/// log, in the order that it had there.
+/// Closes a connection over two files that shows a house in order, and gives the files back. What
+/// it has not committed is undone. The database file then holds the house alone, with no need of
+/// its log, in the order that it had there.
 ///
-/// After an error the store is given back: a crash finds nothing that it could not have found before.
+/// After an error the store is given back: a crash finds nothing that it could not have found
+/// before, but for the order.
 pub fn close_connection<D: Disk + Drop>(
     conn: Connection<Renumbered<FileStore<D>>>,
 ) -> Result<Files<D>, (KeepFault, FileStore<D>)>
@@ -60,4 +64,20 @@ pub fn close_connection<D: Disk + Drop>(
     ensures sound { IfErr result (λ e. e.0 ≢ Damaged) }
 {
     close_store(conn.into_store().into_inner())
+}
+
+/// Ends a keep, and gives its files back. Where no call has answered Store, the database file then
+/// holds the house alone, with no need of its log, in the order that it had there. After an `Err` a
+/// crash of file and log leaves nothing that it could not have left before, but for the order.
+pub fn close_files<D: Disk + Drop>(
+    keep: SqlKeep<Renumbered<FileStore<D>>>,
+) -> (Result<(), KeepFault>, Files<D>)
+    ensures ended { OnOk result.0 (IsEnded D.Disk keep result.1) }
+    ensures left { OnErr result.0 (IsLeft D.Disk keep result.1) }
+    ensures sound { ¬ (IsErrOf result.0 Damaged) }
+{
+    match close_connection(keep.into_connection()) {
+        Ok(files) => (Ok(()), files),
+        Err((fault, store)) => (Err(fault), store.close()),
+    }
 }

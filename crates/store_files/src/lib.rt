@@ -12,7 +12,7 @@ mod creations;
 mod laws;
 mod openings;
 
-pub use closings::close_connection;
+pub use closings::{close_connection, close_files};
 pub use copies::open_copies;
 pub use creations::create_files;
 pub use laws::{houses_lie_in_any_order, openings_find_what_crashes_leave};
