@@ -1,59 +1,66 @@
 -- The texts of the statements that make the tables.
-use Rattle.std.specs.Prelude.{codes, List, ℕ}
+use Rattle.std.specs.Prelude.{List, ℕ}
+use Rattle.store_rows.specs.declared.tables.TheConstants.{BAND, BID, BID_BY_MEMBER, CATEGORY}
+use Rattle.store_rows.specs.declared.tables.TheConstants.{EDITION, FEEDBACK, FEEDBACK_BY_RECEIVER}
+use Rattle.store_rows.specs.declared.tables.TheConstants.{HOUSE, ITEM, ITEM_BY_CATEGORY}
+use Rattle.store_rows.specs.declared.tables.TheConstants.{ITEM_BY_END, ITEM_BY_LEADER}
+use Rattle.store_rows.specs.declared.tables.TheConstants.{ITEM_BY_SELLER, LATER_BAND, MEMBER}
+use Rattle.store_rows.specs.declared.tables.TheConstants.{QUESTION, QUESTION_BY_ASKER, RESERVE}
+use Rattle.store_rows.specs.declared.tables.TheConstants.{WATCH}
 
 abbrev pub make_house : List ℕ
-make_house = codes "CREATE TABLE house (id INTEGER PRIMARY KEY, version INTEGER NOT NULL, clock INTEGER NOT NULL, rate INTEGER NOT NULL, zone TEXT NOT NULL) STRICT"
+make_house = HOUSE.now
 
 abbrev pub make_band : List ℕ
-make_band = codes "CREATE TABLE band (at INTEGER PRIMARY KEY, step INTEGER NOT NULL) STRICT"
+make_band = BAND.now
 
 abbrev pub make_member : List ℕ
-make_member = codes "CREATE TABLE member (id INTEGER PRIMARY KEY, name TEXT NOT NULL, UNIQUE (name)) STRICT"
+make_member = MEMBER.now
 
 abbrev pub make_category : List ℕ
-make_category = codes "CREATE TABLE category (id INTEGER PRIMARY KEY, name TEXT NOT NULL, UNIQUE (name)) STRICT"
+make_category = CATEGORY.now
 
 abbrev pub make_item : List ℕ
-make_item = codes "CREATE TABLE item (id INTEGER PRIMARY KEY, seller INTEGER NOT NULL REFERENCES member (id), category INTEGER NOT NULL REFERENCES category (id), lot TEXT NOT NULL, title TEXT NOT NULL, body TEXT NOT NULL, start INTEGER NOT NULL, buy_now INTEGER, ending INTEGER NOT NULL, state INTEGER NOT NULL, closed INTEGER, price INTEGER NOT NULL, leader INTEGER REFERENCES member (id), top INTEGER, second INTEGER, count INTEGER NOT NULL, UNIQUE (seller, lot)) STRICT"
+make_item = ITEM.now
 
 abbrev pub make_bid : List ℕ
-make_bid = codes "CREATE TABLE bid (item INTEGER NOT NULL REFERENCES item (id), no INTEGER NOT NULL, member INTEGER NOT NULL REFERENCES member (id), maximum INTEGER NOT NULL, PRIMARY KEY (item, no)) STRICT"
+make_bid = BID.now
 
 abbrev pub make_watch : List ℕ
-make_watch = codes "CREATE TABLE watch (member INTEGER NOT NULL REFERENCES member (id), item INTEGER NOT NULL REFERENCES item (id), PRIMARY KEY (member, item)) STRICT"
+make_watch = WATCH.now
 
 abbrev pub make_question : List ℕ
-make_question = codes "CREATE TABLE question (item INTEGER NOT NULL REFERENCES item (id), asker INTEGER NOT NULL REFERENCES member (id), n INTEGER NOT NULL, body TEXT NOT NULL, answer TEXT, PRIMARY KEY (item, asker, n)) STRICT"
+make_question = QUESTION.now
 
 abbrev pub make_feedback : List ℕ
-make_feedback = codes "CREATE TABLE feedback (item INTEGER NOT NULL REFERENCES item (id), giver INTEGER NOT NULL REFERENCES member (id), receiver INTEGER NOT NULL REFERENCES member (id), rating INTEGER NOT NULL, body TEXT NOT NULL, PRIMARY KEY (item, giver)) STRICT"
+make_feedback = FEEDBACK.now
 
 abbrev pub make_item_by_category : List ℕ
-make_item_by_category = codes "CREATE INDEX item_by_category ON item (category, id)"
+make_item_by_category = ITEM_BY_CATEGORY.now
 
 abbrev pub make_item_by_seller : List ℕ
-make_item_by_seller = codes "CREATE INDEX item_by_seller ON item (seller, id)"
+make_item_by_seller = ITEM_BY_SELLER.now
 
 abbrev pub make_item_by_leader : List ℕ
-make_item_by_leader = codes "CREATE INDEX item_by_leader ON item (leader, id)"
+make_item_by_leader = ITEM_BY_LEADER.now
 
 abbrev pub make_item_by_end : List ℕ
-make_item_by_end = codes "CREATE INDEX item_by_end ON item (state, ending)"
+make_item_by_end = ITEM_BY_END.now
 
 abbrev pub make_bid_by_member : List ℕ
-make_bid_by_member = codes "CREATE INDEX bid_by_member ON bid (member, item)"
+make_bid_by_member = BID_BY_MEMBER.now
 
 abbrev pub make_question_by_asker : List ℕ
-make_question_by_asker = codes "CREATE INDEX question_by_asker ON question (asker, item, n)"
+make_question_by_asker = QUESTION_BY_ASKER.now
 
 abbrev pub make_feedback_by_receiver : List ℕ
-make_feedback_by_receiver = codes "CREATE INDEX feedback_by_receiver ON feedback (receiver, item, giver)"
+make_feedback_by_receiver = FEEDBACK_BY_RECEIVER.now
 
 abbrev pub make_reserve : List ℕ
-make_reserve = codes "CREATE TABLE reserve (item INTEGER PRIMARY KEY REFERENCES item (id), amount INTEGER NOT NULL) STRICT"
+make_reserve = RESERVE.now
 
 abbrev pub make_edition : List ℕ
-make_edition = codes "CREATE TABLE edition (edition INTEGER PRIMARY KEY, first INTEGER NOT NULL) STRICT"
+make_edition = EDITION.now
 
 abbrev pub make_later_band : List ℕ
-make_later_band = codes "CREATE TABLE later_band (edition INTEGER NOT NULL REFERENCES edition (edition), at INTEGER NOT NULL, step INTEGER NOT NULL, PRIMARY KEY (edition, at)) STRICT"
+make_later_band = LATER_BAND.now

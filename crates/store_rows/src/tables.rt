@@ -19,6 +19,68 @@ pub const FIRST_STEPS: usize = 16;
 /// How many statements make the tables.
 pub const STEPS: usize = 19;
 
+// The schema, a statement a step. Definitions take the texts from here.
+const HOUSE: &str = "CREATE TABLE house (id INTEGER PRIMARY KEY, version INTEGER NOT NULL, \
+    clock INTEGER NOT NULL, rate INTEGER NOT NULL, zone TEXT NOT NULL) STRICT";
+
+const BAND: &str = "CREATE TABLE band (at INTEGER PRIMARY KEY, step INTEGER NOT NULL) STRICT";
+
+const MEMBER: &str =
+    "CREATE TABLE member (id INTEGER PRIMARY KEY, name TEXT NOT NULL, UNIQUE (name)) STRICT";
+
+const CATEGORY: &str =
+    "CREATE TABLE category (id INTEGER PRIMARY KEY, name TEXT NOT NULL, UNIQUE (name)) STRICT";
+
+const ITEM: &str =
+    "CREATE TABLE item (id INTEGER PRIMARY KEY, seller INTEGER NOT NULL REFERENCES member (id), \
+    category INTEGER NOT NULL REFERENCES category (id), lot TEXT NOT NULL, title TEXT NOT NULL, \
+    body TEXT NOT NULL, start INTEGER NOT NULL, buy_now INTEGER, ending INTEGER NOT NULL, \
+    state INTEGER NOT NULL, closed INTEGER, price INTEGER NOT NULL, \
+    leader INTEGER REFERENCES member (id), top INTEGER, second INTEGER, count INTEGER NOT NULL, \
+    UNIQUE (seller, lot)) STRICT";
+
+const BID: &str =
+    "CREATE TABLE bid (item INTEGER NOT NULL REFERENCES item (id), no INTEGER NOT NULL, \
+    member INTEGER NOT NULL REFERENCES member (id), maximum INTEGER NOT NULL, \
+    PRIMARY KEY (item, no)) STRICT";
+
+const WATCH: &str = "CREATE TABLE watch (member INTEGER NOT NULL REFERENCES member (id), \
+    item INTEGER NOT NULL REFERENCES item (id), PRIMARY KEY (member, item)) STRICT";
+
+const QUESTION: &str = "CREATE TABLE question (item INTEGER NOT NULL REFERENCES item (id), \
+    asker INTEGER NOT NULL REFERENCES member (id), n INTEGER NOT NULL, body TEXT NOT NULL, \
+    answer TEXT, PRIMARY KEY (item, asker, n)) STRICT";
+
+const FEEDBACK: &str = "CREATE TABLE feedback (item INTEGER NOT NULL REFERENCES item (id), \
+    giver INTEGER NOT NULL REFERENCES member (id), \
+    receiver INTEGER NOT NULL REFERENCES member (id), rating INTEGER NOT NULL, \
+    body TEXT NOT NULL, PRIMARY KEY (item, giver)) STRICT";
+
+const ITEM_BY_CATEGORY: &str = "CREATE INDEX item_by_category ON item (category, id)";
+
+const ITEM_BY_SELLER: &str = "CREATE INDEX item_by_seller ON item (seller, id)";
+
+const ITEM_BY_LEADER: &str = "CREATE INDEX item_by_leader ON item (leader, id)";
+
+const ITEM_BY_END: &str = "CREATE INDEX item_by_end ON item (state, ending)";
+
+const BID_BY_MEMBER: &str = "CREATE INDEX bid_by_member ON bid (member, item)";
+
+const QUESTION_BY_ASKER: &str = "CREATE INDEX question_by_asker ON question (asker, item, n)";
+
+const FEEDBACK_BY_RECEIVER: &str =
+    "CREATE INDEX feedback_by_receiver ON feedback (receiver, item, giver)";
+
+const RESERVE: &str = "CREATE TABLE reserve (item INTEGER PRIMARY KEY REFERENCES item (id), \
+    amount INTEGER NOT NULL) STRICT";
+
+const EDITION: &str =
+    "CREATE TABLE edition (edition INTEGER PRIMARY KEY, first INTEGER NOT NULL) STRICT";
+
+const LATER_BAND: &str =
+    "CREATE TABLE later_band (edition INTEGER NOT NULL REFERENCES edition (edition), \
+    at INTEGER NOT NULL, step INTEGER NOT NULL, PRIMARY KEY (edition, at)) STRICT";
+
 // The text of a step: the tables in the order of their references, their indexes, and then the tables
 // that version 2 adds.
 fn step_text(step: usize) -> &'static str
@@ -26,44 +88,25 @@ fn step_text(step: usize) -> &'static str
     ensures { result.now ≡ making_at step }
 {
     match step {
-        0 => "CREATE TABLE house (id INTEGER PRIMARY KEY, version INTEGER NOT NULL, \
-            clock INTEGER NOT NULL, rate INTEGER NOT NULL, zone TEXT NOT NULL) STRICT",
-        1 => "CREATE TABLE band (at INTEGER PRIMARY KEY, step INTEGER NOT NULL) STRICT",
-        2 =>
-            "CREATE TABLE member (id INTEGER PRIMARY KEY, name TEXT NOT NULL, UNIQUE (name)) STRICT",
-        3 =>
-            "CREATE TABLE category (id INTEGER PRIMARY KEY, name TEXT NOT NULL, UNIQUE (name)) STRICT",
-        4 => "CREATE TABLE item (id INTEGER PRIMARY KEY, \
-            seller INTEGER NOT NULL REFERENCES member (id), \
-            category INTEGER NOT NULL REFERENCES category (id), lot TEXT NOT NULL, \
-            title TEXT NOT NULL, body TEXT NOT NULL, start INTEGER NOT NULL, buy_now INTEGER, \
-            ending INTEGER NOT NULL, state INTEGER NOT NULL, closed INTEGER, \
-            price INTEGER NOT NULL, leader INTEGER REFERENCES member (id), top INTEGER, \
-            second INTEGER, count INTEGER NOT NULL, UNIQUE (seller, lot)) STRICT",
-        5 => "CREATE TABLE bid (item INTEGER NOT NULL REFERENCES item (id), no INTEGER NOT NULL, \
-            member INTEGER NOT NULL REFERENCES member (id), maximum INTEGER NOT NULL, \
-            PRIMARY KEY (item, no)) STRICT",
-        6 => "CREATE TABLE watch (member INTEGER NOT NULL REFERENCES member (id), \
-            item INTEGER NOT NULL REFERENCES item (id), PRIMARY KEY (member, item)) STRICT",
-        7 => "CREATE TABLE question (item INTEGER NOT NULL REFERENCES item (id), \
-            asker INTEGER NOT NULL REFERENCES member (id), n INTEGER NOT NULL, \
-            body TEXT NOT NULL, answer TEXT, PRIMARY KEY (item, asker, n)) STRICT",
-        8 => "CREATE TABLE feedback (item INTEGER NOT NULL REFERENCES item (id), \
-            giver INTEGER NOT NULL REFERENCES member (id), \
-            receiver INTEGER NOT NULL REFERENCES member (id), rating INTEGER NOT NULL, \
-            body TEXT NOT NULL, PRIMARY KEY (item, giver)) STRICT",
-        9 => "CREATE INDEX item_by_category ON item (category, id)",
-        10 => "CREATE INDEX item_by_seller ON item (seller, id)",
-        11 => "CREATE INDEX item_by_leader ON item (leader, id)",
-        12 => "CREATE INDEX item_by_end ON item (state, ending)",
-        13 => "CREATE INDEX bid_by_member ON bid (member, item)",
-        14 => "CREATE INDEX question_by_asker ON question (asker, item, n)",
-        15 => "CREATE INDEX feedback_by_receiver ON feedback (receiver, item, giver)",
-        16 =>
-            "CREATE TABLE reserve (item INTEGER PRIMARY KEY REFERENCES item (id), amount INTEGER NOT NULL) STRICT",
-        17 => "CREATE TABLE edition (edition INTEGER PRIMARY KEY, first INTEGER NOT NULL) STRICT",
-        _ => "CREATE TABLE later_band (edition INTEGER NOT NULL REFERENCES edition (edition), \
-            at INTEGER NOT NULL, step INTEGER NOT NULL, PRIMARY KEY (edition, at)) STRICT",
+        0 => HOUSE,
+        1 => BAND,
+        2 => MEMBER,
+        3 => CATEGORY,
+        4 => ITEM,
+        5 => BID,
+        6 => WATCH,
+        7 => QUESTION,
+        8 => FEEDBACK,
+        9 => ITEM_BY_CATEGORY,
+        10 => ITEM_BY_SELLER,
+        11 => ITEM_BY_LEADER,
+        12 => ITEM_BY_END,
+        13 => BID_BY_MEMBER,
+        14 => QUESTION_BY_ASKER,
+        15 => FEEDBACK_BY_RECEIVER,
+        16 => RESERVE,
+        17 => EDITION,
+        _ => LATER_BAND,
     }
 }
 
