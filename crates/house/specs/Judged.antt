@@ -1,10 +1,12 @@
 -- What is reported of an item that a command names, before the item's own rules and by them.
-use Rattle.std.specs.Prelude.{◌≡◌, ℕ, List, ◌++◌, Bool, length, Some, None, Result, Ok, Err}
+use Rattle.std.specs.Prelude.{◌≡◌, ℕ, List, [], ◌∷◌, ◌++◌, Bool, length, nat_le, not, Some, None, Result, Ok, Err}
 use Rattle.proxy.specs.Rules.{first_failing}
 use Rattle.house_rows.specs.declared.item.Terms.{Terms}
 use Rattle.house_rows.specs.declared.refusal.Refusal.{Refusal}
+use Rattle.house_rows.specs.declared.refusal.Refusal.TheVariants.{Limit, NameTaken, Range}
 use Rattle.house_rows.specs.Found.{terms_at}
 use Rattle.house_rows.specs.Tables.{Tables}
+use Rattle.house_rows.specs.Text.{is_text}
 use Rattle.house_rows.specs.Verdict.{Rule, common_rules, purchase_rules}
 use Rattle.house.specs.Decided.{of_terms}
 
@@ -12,7 +14,12 @@ use Rattle.house.specs.Decided.{of_terms}
 abbrev pub first_rules : Tables → ℕ → ℕ → Bool → List Rule
 first_rules t moment caller of_house = common_rules t.clock (length t.members) moment caller of_house
 
--- and those of an item after them
+-- the rules of a new name, by whether it is taken, and by how many there are and may be
+abbrev pub name_rules : List ℕ → Bool → ℕ → ℕ → List Rule
+name_rules name is_taken count most =
+    (not (is_text 1 40 name), Range) ∷ (is_taken, NameTaken) ∷ (nat_le most count, Limit) ∷ []
+
+-- the rules of a command on an item
 abbrev pub item_rules : Tables → ℕ → ℕ → Bool → ℕ → (Terms → List Rule) → List Rule
 item_rules t moment caller of_house item rules = first_rules t moment caller of_house ++ of_terms (terms_at t item) rules
 

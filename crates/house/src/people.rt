@@ -8,7 +8,7 @@ ghost use Rattle.house_rows.specs.Found.{category_named, member_named};
 ghost use Rattle.house_rows.specs.Text.{same_text};
 ghost use Rattle.house_rows.specs.Verdict.{category_rules, register_rules};
 ghost use Rattle.house.specs.Decides.{Decides};
-ghost use Rattle.house.specs.Judged.{first_rules};
+ghost use Rattle.house.specs.Judged.{first_rules, name_rules};
 ghost use Rattle.house_rows.specs.Taken.{CategoryFitsNamed, MemberFitsNamed};
 
 use crate::targets::{common, is_text};
@@ -54,16 +54,9 @@ fn member_refused<K: Keep>(keep: &mut K, name: &Text) -> Result<Option<Refusal>,
         (λ t r. r ≡ first_failing (register_rules name.now t.members))
         (MemberFitsNamed name.now) }
 {
-    if !is_text(1, 40, name) {
-        return Ok(Some(Refusal::Range));
-    }
-    if is_member_named(keep, name)? {
-        return Ok(Some(Refusal::NameTaken));
-    }
-    if keep.counts()?.members >= MOST_MEMBERS {
-        return Ok(Some(Refusal::Limit));
-    }
-    Ok(None)
+    let is_taken = is_member_named(keep, name)?;
+    let count = keep.counts()?.members;
+    Ok(name_refused(name, is_taken, count, MOST_MEMBERS))
 }
 
 /// Decides on a new category.
@@ -106,16 +99,25 @@ fn category_refused<K: Keep>(keep: &mut K, name: &Text) -> Result<Option<Refusal
         (λ t r. r ≡ first_failing (category_rules name.now t.categories))
         (CategoryFitsNamed name.now) }
 {
+    let is_taken = is_category_named(keep, name)?;
+    let count = keep.counts()?.categories;
+    Ok(name_refused(name, is_taken, count, MOST_CATEGORIES))
+}
+
+// Why a name can't be given, where there are so many of at most so many.
+fn name_refused(name: &Text, is_taken: bool, count: u32, most: u32) -> Option<Refusal>
+    ensures { result ≡ first_failing (name_rules name.now is_taken count most) }
+{
     if !is_text(1, 40, name) {
-        return Ok(Some(Refusal::Range));
+        return Some(Refusal::Range);
     }
-    if is_category_named(keep, name)? {
-        return Ok(Some(Refusal::NameTaken));
+    if is_taken {
+        return Some(Refusal::NameTaken);
     }
-    if keep.counts()?.categories >= MOST_CATEGORIES {
-        return Ok(Some(Refusal::Limit));
+    if count >= most {
+        return Some(Refusal::Limit);
     }
-    Ok(None)
+    None
 }
 
 // Whether there is a member of that name.
