@@ -1,5 +1,5 @@
 -- The standing of one item, from the list of its accepted bids, the earliest first. Amounts are cents.
-use Rattle.std.specs.Prelude.{if◌then◌else◌, ℕ, ◌+◌, List, [], ◌∷◌, ◌++◌, length, filter, map, nat_le, nat_lt, ◌==◌, ◌&&◌, not, max, min, Bool, false, Option, Some, None}
+use Rattle.std.specs.Prelude.{if◌then◌else◌, ℕ, ◌+◌, List, [], ◌∷◌, ◌++◌, length, filter, map, nat_le, nat_lt, ◌==◌, ◌&&◌, not, max, min, Bool, false, Option, Some, None, codes, decimal}
 use Rattle.steps.specs.Table.{Band, over}
 use Rattle.proxy.specs.declared.bid.Bid.{Bid}
 use Rattle.proxy.specs.declared.bid.BidRefusal.{BidRefusal}
@@ -126,3 +126,9 @@ abbrev pub refusal_number : BidRefusal → ℕ
 refusal_number (Low floor) = 1
 refusal_number NotHigher = 2
 refusal_number Full = 3
+
+-- and their texts
+abbrev pub refusal_text : BidRefusal → List ℕ
+refusal_text (Low floor) = codes "the maximum is under the floor of " ++ decimal floor
+refusal_text NotHigher = codes "the maximum is not above the leader's own"
+refusal_text Full = codes "the item takes no more bids"

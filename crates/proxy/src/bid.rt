@@ -1,6 +1,6 @@
 //! What a bid is, and why one is refused.
-ghost use Rattle.std.specs.Prelude.{◌≡◌};
-ghost use Rattle.proxy.specs.Bids.{refusal_number};
+ghost use Rattle.std.specs.Prelude.{◌≡◌, Some};
+ghost use Rattle.proxy.specs.Bids.{refusal_number, refusal_text};
 
 use cents::Cents;
 use std::error::Error;
@@ -45,6 +45,8 @@ impl BidRefusal {
 }
 
 impl fmt::Display for BidRefusal {
+    ghost output = { λ refusal. Some (refusal_text refusal) };
+
     fn fmt<W: fmt::Write>(&self, f: &mut fmt::Formatter<W>) -> fmt::Result {
         match self {
             BidRefusal::Low { floor } => write!(f, "the maximum is under the floor of {floor}"),

@@ -1,5 +1,5 @@
 //! A band table that is always valid.
-ghost use Rattle.std.specs.Prelude.{◌≡◌, ◌≤◌, ◌<◌, ◌+◌, ◌≢◌, Err, IfOk, IfSome};
+ghost use Rattle.std.specs.Prelude.{◌≡◌, ◌≤◌, ◌<◌, ◌+◌, ◌≢◌, Err, IfErr, IfOk, IfSome};
 ghost use Rattle.steps.specs.Table.{IsBandTable, over, step_at};
 ghost use Rattle.steps.specs.Records.{IsJudged};
 ghost use Rattle.steps.specs.Reading.{records_of};
@@ -64,7 +64,8 @@ impl Bands {
     ///
     /// The only error is `BandsFault::Memory`.
     pub fn example(alloc: Global) -> Result<Bands, BandsFault>
-        ensures { IfOk result (λ bands. bands ≡ example_table) }
+        ensures table { IfOk result (λ bands. bands ≡ example_table) }
+        ensures memory { IfErr result (λ fault. fault ≡ BandsFault.Memory) }
     {
         match Vec::from_slice(alloc, &EXAMPLE) {
             Ok(rows) => Ok(Bands { rows }),
