@@ -21,3 +21,8 @@ each_is_all [] old = sym (append-nil old)
 each_is_all (m ∷ ms) old =
     each_is_all ms (old ++ members_text (m ∷ [])) ∙ append_assoc old (members_text (m ∷ [])) (members_text ms)
     ∙ ap (λ t. old ++ t) (sym (members_append (m ∷ []) ms))
+
+-- one of them, whose value may be told in another way, and those after it
+pub one_more : (old now : List ℕ) (ms : List (List ℕ × Data)) (name : List ℕ) (had has : Data) → now ≡ old ++ members_text ((name, had) ∷ []) → had ≡ has
+    → with_each now ms ≡ with_each old ((name, has) ∷ ms)
+one_more old now ms name had has put same = ap (λ t. with_each t ms) (put ∙ ap (λ d. old ++ members_text ((name, d) ∷ [])) same)

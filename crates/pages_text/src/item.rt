@@ -1,11 +1,11 @@
 //! Items.
-ghost use Rattle.std.specs.Prelude.{◌≡◌, ◌++◌, IsTrue, OnOk, map};
+ghost use Rattle.std.specs.Prelude.{◌≡◌, ◌++◌, IsTrue, OnOk, drop, map, take};
 ghost use Rattle.std.specs.Io.{StartsWith};
 ghost use Rattle.house_rows.specs.Editions.{bands_in};
 ghost use Rattle.house_rows.specs.Items.{floor_of};
 ghost use Rattle.pages_json.specs.Fields.{are_keys, member_of};
-ghost use Rattle.pages_json.specs.Words.{AreInOrder, object_of, text_of};
-ghost use Rattle.pages_text.specs.Trees.{item_tree};
+ghost use Rattle.pages_json.specs.Words.{AreInOrder, members_text, object_of, text_of};
+ghost use Rattle.pages_text.specs.Trees.{item_members, item_tree};
 
 use cents::Cents;
 use house_rows::{Editions, Item, ItemShown, State, Terms};
@@ -24,8 +24,8 @@ pub fn floor(bands: &Bands, terms: &Terms) -> Option<u64>
     Some(floor_of(bands, terms.start, terms.price, terms.count))
 }
 
-// The members of an item in byte order of their keys. Each is written here alone: the macro `$then`
-// is handed all of them, after what stands there as `$with`.
+// The members of an item in byte order of their keys, in three groups. Each is written here alone:
+// the macro `$then` is handed the groups, after what stands there as `$with`.
 macro_rules! item_members {
     ($item:ident, $edition:ident, $floor:ident => $then:ident!($($with:tt)*)) => {
         $then!($($with)* {
@@ -34,12 +34,14 @@ macro_rules! item_members {
             "closed": Field::Maybe($item.terms.closed),
             "count": Field::Number(u64::from($item.terms.count)),
             "edition": Field::Number(u64::from($edition)),
+        } {
             "end": Field::Number($item.terms.end),
             "floor": Field::Maybe($floor),
             "item": Field::Number(u64::from($item.terms.item)),
             "leader": Field::Maybe($item.terms.leader.map(u64::from)),
             "lot": Field::Text($item.lot.as_str()),
             "met": Field::MaybeFlag($item.terms.met),
+        } {
             "price": Field::Number($item.terms.price.value()),
             "seller": Field::Number(u64::from($item.terms.seller)),
             "start": Field::Number($item.terms.start.value()),
@@ -50,18 +52,37 @@ macro_rules! item_members {
     };
 }
 
-// Makes an array of members.
+// Makes an array of the members of all groups.
 macro_rules! fields {
-    ({ $($name:literal: $value:expr,)* }) => {
-        [$((key!($name), $value)),*]
+    ($({ $($name:literal: $value:expr,)* })*) => {
+        [$($((key!($name), $value),)*)*]
     };
 }
 
-// Appends members, one at a time: each key and each kind of value is a constant where it is
-// written, and would be looked up in an array of fields.
+// Appends the members of a group, one at a time: each key and each kind of value is a constant where
+// it is written, and would be looked up in an array of fields.
 macro_rules! put_each {
     ($alloc:ident, $out:ident { $($name:literal: $value:expr,)* }) => {
         $(put_member($alloc, $out, key!($name), $value)?;)*
+    };
+}
+
+// Appends the first, the second or the third group.
+macro_rules! put_first {
+    ($alloc:ident, $out:ident $first:tt $second:tt $third:tt) => {
+        put_each!($alloc, $out $first)
+    };
+}
+
+macro_rules! put_second {
+    ($alloc:ident, $out:ident $first:tt $second:tt $third:tt) => {
+        put_each!($alloc, $out $second)
+    };
+}
+
+macro_rules! put_third {
+    ($alloc:ident, $out:ident $first:tt $second:tt $third:tt) => {
+        put_each!($alloc, $out $third)
     };
 }
 
@@ -79,6 +100,61 @@ pub(crate) fn item_fields(
     item_members!(item, edition, floor => fields!())
 }
 
+// Appends the first group. Each is a function of its own, because the compiler would call for each key
+// of a longer one, where it copies in place.
+#[inline(always)]
+#[tactic(auto, using(crate::proofs::Members::front_then))]
+fn put_first(
+    alloc: Global,
+    out: &mut Vec<u8>,
+    item: &Item,
+    edition: u32,
+    floor: Option<u64>,
+) -> Result<(), AllocError>
+    ensures text { OnOk result (out.new.items ≡ out.old.items ++ members_text (take 5
+        (item_members (record { item = item.now; edition = edition; floor = floor })))) }
+    ensures front { StartsWith out.new.items out.old.items }
+{
+    item_members!(item, edition, floor => put_first!(alloc, out));
+    Ok(())
+}
+
+// Appends the second group.
+#[inline(always)]
+#[tactic(auto, using(crate::proofs::Members::front_then))]
+fn put_second(
+    alloc: Global,
+    out: &mut Vec<u8>,
+    item: &Item,
+    edition: u32,
+    floor: Option<u64>,
+) -> Result<(), AllocError>
+    ensures text { OnOk result (out.new.items ≡ out.old.items ++ members_text (take 6 (drop 5
+        (item_members (record { item = item.now; edition = edition; floor = floor }))))) }
+    ensures front { StartsWith out.new.items out.old.items }
+{
+    item_members!(item, edition, floor => put_second!(alloc, out));
+    Ok(())
+}
+
+// Appends the third group.
+#[inline(always)]
+#[tactic(auto, using(crate::proofs::Members::front_then))]
+fn put_third(
+    alloc: Global,
+    out: &mut Vec<u8>,
+    item: &Item,
+    edition: u32,
+    floor: Option<u64>,
+) -> Result<(), AllocError>
+    ensures text { OnOk result (out.new.items ≡ out.old.items ++ members_text (drop 11
+        (item_members (record { item = item.now; edition = edition; floor = floor })))) }
+    ensures front { StartsWith out.new.items out.old.items }
+{
+    item_members!(item, edition, floor => put_third!(alloc, out));
+    Ok(())
+}
+
 // Appends an item.
 #[tactic(auto, using(crate::proofs::Members::front_then))]
 fn put_item(
@@ -93,7 +169,9 @@ fn put_item(
     ensures front { StartsWith out.new.items out.old.items }
 {
     let start = out.len();
-    item_members!(item, edition, floor => put_each!(alloc, out));
+    put_first(alloc, out, item, edition, floor)?;
+    put_second(alloc, out, item, edition, floor)?;
+    put_third(alloc, out, item, edition, floor)?;
     end_object(out, start)?;
     Ok(())
 }
