@@ -6,9 +6,9 @@ use Rattle.house_rows.specs.declared.settings.Settings.{Settings}
 use Rattle.sqlite.specs.Files.{HoldsDatabase}
 use Rattle.sqlite_trees.specs.Tree.{Trees}
 use Rattle.sqlite_wal.specs.Recovery.{Image}
-use Rattle.store.specs.Opened.{IsMade, IsOpened, IsUpgraded}
-use Rattle.store.specs.Opening.{HoldsNoTable, HoldsTables, tables_after}
-use Rattle.store_rows.specs.Tables.{tables_in}
+use Rattle.store_files.specs.InOrder.{HoldsNoTable, HoldsTables, tables_after}
+use Rattle.store_files.specs.Opened.{IsMade, IsOpened, IsUpgraded}
+use Rattle.store_house.specs.Named.{tables_held}
 
 -- as files hold what they showed
 abbrev pub bytes_of : List ℕ → List ℕ → Image
@@ -19,7 +19,7 @@ module _ {K : Type 0} (content : K → Tables) (is_failed : K → Bool) (is_hone
     (same : path ≡ name → seen ≡ image) (keep : K)
     (only : is_honest keep → (t : Tables) → may_leave keep t → t ≡ content keep)
     (works : is_failed keep ≡ false) where
-  pub opened_of : (is_honest keep → (db : Trees) → HoldsDatabase seen db → content keep ≡ tables_in db)
+  pub opened_of : (is_honest keep → (db : Trees) → HoldsDatabase seen db → content keep ≡ tables_held db)
       → IsOpened content is_failed is_honest may_leave name image path keep
   opened_of holds = record {
     found = λ at honest t held.

@@ -2,7 +2,7 @@
 use Rattle.std.specs.Prelude.{◌≡◌}
 use Rattle.house_rows.specs.Tables.{Tables}
 use Rattle.sqlite_wal.specs.Recovery.{Image}
-use Rattle.store.specs.Opening.{HoldsTables}
+use Rattle.store_files.specs.InOrder.{HoldsTables}
 
 -- both have the tables that the file and its log held
 pub record AreCopies {K : Type 0} (content : K → Tables) (is_honest : K → Type 0) (image : Image)

@@ -16,6 +16,8 @@ use sqlite::FileStore;
 use sqlite_disk::Memory;
 use std::alloc::Global;
 use store::SqlKeep;
+use store_files::InMemory;
+use tree_order::Renumbered;
 
 /// What is answered over two houses, and compared.
 #[derive(Clone, Copy)]
@@ -161,6 +163,20 @@ fn compare_house<S: StoreInMemory, T: Place>(
     compare_copies::<SqlKeep<S>, T>(rt, alloc, path, asked, first)
 }
 
+// The same, of copies on a disk in memory. Here the store is named, over any such disk: what runs over
+// any store can't be called of it by its full name.
+fn compare_on<D: InMemory, T: Place>(
+    rt: &HostRuntime,
+    alloc: Global,
+    path: &str,
+    asked: Comparison<'_>,
+    first: T,
+) -> u8
+    ensures { result ≤ 1 }
+{
+    compare_house::<Renumbered<FileStore<D>>, T>(rt, alloc, path, asked, first)
+}
+
 /// Compares what is asked for, over new houses or over copies of the house in a file.
 pub(crate) fn compare<M: KeepInMemory, T: Place>(
     rt: &HostRuntime,
@@ -173,8 +189,6 @@ pub(crate) fn compare<M: KeepInMemory, T: Place>(
 {
     match begun {
         Beginning::New(house) => compare_new::<M>(rt, alloc, house, asked),
-        Beginning::House(path) => compare_house::<FileStore<Memory>, T>(
-            rt, alloc, path, asked, first,
-        ),
+        Beginning::House(path) => compare_on::<Memory, T>(rt, alloc, path, asked, first),
     }
 }

@@ -9,7 +9,9 @@ use crate::files::{Place, find_files};
 use house_rows::{Keep, KeepFault};
 use sqlite::{Alter, FileFrom, FileStore, Leftover};
 use std::alloc::Global;
-use store::{InMemory, SqlKeep, open_copies};
+use store::SqlKeep;
+use store_files::{InMemory, open_copies};
+use tree_order::Renumbered;
 
 /// Keeps over two copies of a house in a file, and the file with its log.
 #[derive(Drop)]
@@ -38,13 +40,13 @@ pub trait StoreInMemory: Sized + Alter + Drop {
         ensures right { IfOk result (λ both. is_failed both.right ≡ false) };
 }
 
-impl<M: InMemory> StoreInMemory for FileStore<M> {
+impl<M: InMemory> StoreInMemory for Renumbered<FileStore<M>> {
     fn open_twice<T: Place>(
         rt: &HostRuntime,
         alloc: Global,
         path: &str,
         first: T,
-    ) -> Result<Copies<SqlKeep<FileStore<M>>, Leftover<FileFrom<T>>>, KeepFault> {
+    ) -> Result<Copies<SqlKeep<Renumbered<FileStore<M>>>, Leftover<FileFrom<T>>>, KeepFault> {
         let mut files = find_files(rt, path, first)?;
         match open_copies(alloc, &mut files) {
             Ok((left, right)) => Ok(Copies {

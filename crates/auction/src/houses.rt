@@ -111,7 +111,7 @@ where
         settings: Settings,
         first: S::First,
     ) -> Result<SqlKeep<S>, (KeepFault, Option<S::Rest>)> {
-        S::create_keep(rt, alloc, path, settings, first)
+        S::create_keep(rt, alloc, path, &settings, first)
     }
 
     fn open(

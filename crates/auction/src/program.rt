@@ -11,7 +11,7 @@ use crate::lots::import_file;
 use crate::remains::Remains;
 use crate::replay::replay_input;
 use crate::service::serve_file;
-use crate::stores::StoreInFile;
+use crate::stores::{StoreBelow, StoreInFile};
 use crate::upkeep::{bands_file, init_file, upgrade_file};
 use auction_runs::{MOST, TaskFault, finish_run};
 use auction_words::{Task, read_task};
@@ -25,6 +25,7 @@ use std::io::{self, ErrorKind, Write};
 use store::SqlKeep;
 use store_list::ListKeep;
 use tcp::{Listen, Listener};
+use tree_order::Renumbered;
 
 // The exit status of words that are no command line.
 const REFUSED: u8 = 2;
@@ -35,7 +36,7 @@ pub fn run(rt: &HostRuntime) -> u8
 {
     let alloc = rt.alloc();
     match words(rt, alloc) {
-        Ok(words) => start_at::<Unknown, Listener>(rt, alloc, words.as_slice(), Unknown),
+        Ok(words) => start_at(rt, alloc, words.as_slice(), Unknown),
         Err(error) => no_words(rt, error.kind()),
     }
 }
@@ -64,22 +65,45 @@ fn no_memory(rt: &HostRuntime) -> u8
 }
 
 // The same, with houses in files that hold whatever `first` stands for.
-fn start_at<T: Place, C: Listen>(rt: &HostRuntime, alloc: Global, words: &[String], first: T) -> u8
+fn start_at<T: Place>(rt: &HostRuntime, alloc: Global, words: &[String], first: T) -> u8
     ensures { result ≤ 2 }
 {
-    start_on::<FileFrom<T>, C>(rt, alloc, words, first)
+    start_on::<FileFrom<T>>(rt, alloc, words, first)
 }
 
 // The same, with houses in the files of a disk.
-fn start_on<D: DiskInFile, C: Listen>(
+fn start_on<D: DiskInFile>(rt: &HostRuntime, alloc: Global, words: &[String], first: D::First) -> u8
+    ensures { result ≤ 2 }
+{
+    start_below::<FileStore<D>>(rt, alloc, words, first)
+}
+
+// The same, with houses that are shown in their order over a store in files.
+fn start_below<S: StoreBelow>(
     rt: &HostRuntime,
     alloc: Global,
     words: &[String],
-    first: D::First,
+    first: S::First,
 ) -> u8
+where
+    SqlKeep<Renumbered<S>>: Ends,
     ensures { result ≤ 2 }
 {
-    start::<FileStore<D>, C>(rt, alloc, words, first)
+    start_by_tcp::<Renumbered<S>>(rt, alloc, words, first)
+}
+
+// The same, with houses in the files of a store, served over TCP.
+fn start_by_tcp<S: StoreInFile>(
+    rt: &HostRuntime,
+    alloc: Global,
+    words: &[String],
+    first: S::First,
+) -> u8
+where
+    SqlKeep<S>: Ends,
+    ensures { result ≤ 2 }
+{
+    start::<S, Listener>(rt, alloc, words, first)
 }
 
 // Does what the words ask for, with houses in the files of a store. Here alone the keeps are named,

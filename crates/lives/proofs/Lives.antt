@@ -17,16 +17,17 @@ use Rattle.site.specs.Replies.{IsStep}
 use Rattle.site.specs.Lives.{LeavesALife}
 use Rattle.site.specs.Runs.{InTurn, meant}
 use Rattle.site_request.specs.declared.asked.Asked.{Asked}
-use Rattle.sqlite.specs.Files.{HoldsDatabase, file_state, over_files}
 use Rattle.sqlite_disk.specs.declared.Disk.{Ghosts}
 use Rattle.sqlite_disk.specs.declared.Files.{Files}
 use Rattle.sqlite_store.specs.declared.store.FileStore.{FileStore}
 use Rattle.sqlite_trees.specs.Tree.{Trees}
 use Rattle.sqlite_wal.specs.Recovery.{Image}
+use Rattle.store.specs.Closing.{MayHold}
+use Rattle.store.specs.InOrder.{over_order}
 use Rattle.store.specs.Kept.{House, IsHonest, MayLeave, content, is_failed}
-use Rattle.store.specs.Opened.{IsMade, IsOpened}
-use Rattle.store.specs.Opening.{MayHold}
-use Rattle.store_rows.specs.Tables.{tables_in}
+use Rattle.store_files.specs.Opened.{IsMade, IsOpened}
+use Rattle.store_house.specs.Named.{tables_held}
+use Rattle.tree_order.specs.declared.renumbered.Renumbered.{Renumbered}
 
 -- a keep that is honest after messages was so before them
 pub was_honest : {K : Type 0} (content : K → Tables) (is_failed : K → Bool) (is_honest : K → Type 0)
@@ -51,25 +52,25 @@ set_next settings h moment bands none =
 
 -- one keep, from an opening on
 module _ {D : Type 0} {g : Ghosts D} (settings : Settings) (zone : Zone) (h : History)
-    (image : Image) (name : List ℕ) (opened last : House (FileStore D g))
+    (image : Image) (name : List ℕ) (opened last : House (Renumbered (FileStore D g)))
     (is : IsHistory settings h) (held : HoldHistory settings h image)
-    (is_opened : IsOpened (content over_files) is_failed (IsHonest over_files)
-    (MayLeave over_files) name image name opened) (honest : IsHonest over_files last)
-    (db : Trees) (may : (file_state last.conn).may_leave db) where
-  opened_has : IsHonest over_files opened → content over_files opened ≡ tables_of settings h
+    (is_opened : IsOpened (content over_order) is_failed (IsHonest over_order)
+    (MayLeave over_order) name image name opened) (honest : IsHonest over_order last)
+    (t : Tables) (may : MayLeave over_order last t) where
+  opened_has : IsHonest over_order opened → content over_order opened ≡ tables_of settings h
   opened_has fine = is_opened.found refl fine (tables_of settings h) held
 
-  begun_has : (begun : House (FileStore D g)) → IsBegun (over_disk g) opened begun
-      → IsHonest over_files begun → content over_files begun ≡ tables_of settings h
+  begun_has : (begun : House (Renumbered (FileStore D g))) → IsBegun (over_disk g) opened begun
+      → IsHonest over_order begun → content over_order begun ≡ tables_of settings h
   begun_has begun (inl same) fine =
-      ap (content over_files) same ∙ opened_has (subst (IsHonest over_files) same fine)
+      ap (content over_order) same ∙ opened_has (subst (IsHonest over_order) same fine)
   begun_has begun (inr (read, works)) fine = read.same fine works ∙ opened_has (read.honest fine)
 
-  begun_only : (begun : House (FileStore D g)) → IsBegun (over_disk g) opened begun
-      → IsHonest over_files begun → (t : Tables) → MayLeave over_files begun t
-      → t ≡ content over_files begun
+  begun_only : (begun : House (Renumbered (FileStore D g))) → IsBegun (over_disk g) opened begun
+      → IsHonest over_order begun → (t : Tables) → MayLeave over_order begun t
+      → t ≡ content over_order begun
   begun_only begun (inl same) fine = subst
-      (λ k. IsHonest over_files k → (t : Tables) → MayLeave over_files k t → t ≡ content over_files k)
+      (λ k. IsHonest over_order k → (t : Tables) → MayLeave over_order k t → t ≡ content over_order k)
       (sym same) is_opened.begun.only fine
   begun_only begun (inr (read, works)) fine = λ t left_so.
       is_opened.begun.only (read.honest fine) t (read.crash fine t left_so) ∙ sym (read.same fine works)
@@ -77,17 +78,16 @@ module _ {D : Type 0} {g : Ghosts D} (settings : Settings) (zone : Zone) (h : Hi
   -- messages were answered
   of_answers : (asked : List Asked) (replies : List (List ℕ))
       → HasAnswered (over_disk g) zone asked replies opened last
-      → FindsHistory settings zone h (Answers asked replies) db
+      → FindsHistory settings zone h (Answers asked replies) t
   of_answers asked replies run =
       let after = run.read.honest honest in
-      let fine = was_honest (content over_files) is_failed (IsHonest over_files)
-      (MayLeave over_files) zone asked replies run.begun run.after run.turn after in
-      let lived : LeavesALife (content over_files) (MayLeave over_files) settings zone h asked replies
-      run.begun run.after = leaves_a_life (content over_files) is_failed (IsHonest over_files)
-      (MayLeave over_files) settings zone h asked replies run.begun run.after run.turn after is
+      let fine = was_honest (content over_order) is_failed (IsHonest over_order)
+      (MayLeave over_order) zone asked replies run.begun run.after run.turn after in
+      let lived : LeavesALife (content over_order) (MayLeave over_order) settings zone h asked replies
+      run.begun run.after = leaves_a_life (content over_order) is_failed (IsHonest over_order)
+      (MayLeave over_order) settings zone h asked replies run.begun run.after run.turn after is
       (begun_has run.begun run.so fine) in
-      let life = lived (begun_only run.begun run.so fine) (tables_in db)
-      (run.read.crash honest (tables_in db) (db, may, refl)) in
+      let life = lived (begun_only run.begun run.so fine) t (run.read.crash honest t may) in
       record {
         life = life.0;
         is_life = life.1;
@@ -97,17 +97,17 @@ module _ {D : Type 0} {g : Ghosts D} (settings : Settings) (zone : Zone) (h : Hi
 
   -- a band table was set, or not
   of_setting : (moment : ℕ) (bands : List (ℕ × ℕ))
-      → MayTable (content over_files) (IsHonest over_files) (MayLeave over_files) moment
+      → MayTable (content over_order) (IsHonest over_order) (MayLeave over_order) moment
       (SetBands bands) opened last
-      → FindsHistory settings zone h (Sets moment bands) db
+      → FindsHistory settings zone h (Sets moment bands) t
   of_setting moment bands table =
       let fine = table.honest honest in
-      elim (table.left honest settings h is (opened_has fine) (tables_in db) (db, may, refl)) [
+      elim (table.left honest settings h is (opened_has fine) t may) [
         | inl before ↦ record {
           life = life_of [];
           is_life = inl refl;
           history = is;
-          tables = sym (is_opened.begun.only fine (tables_in db) before ∙ opened_has fine);
+          tables = sym (is_opened.begun.only fine t before ∙ opened_has fine);
         }
         | inr (none, after) ↦ record {
           life = life_of (setting moment bands ∷ []);
@@ -118,7 +118,7 @@ module _ {D : Type 0} {g : Ghosts D} (settings : Settings) (zone : Zone) (h : Hi
       ]
 
   of_run : (run : Run) → Does (over_disk g) zone run opened last
-      → FindsHistory settings zone h run db
+      → FindsHistory settings zone h run t
   of_run (Answers asked replies) run = of_answers asked replies run
   of_run (Sets moment bands) table = of_setting moment bands table
 
@@ -128,12 +128,12 @@ pub leaves : {D : Type 0} {g : Ghosts D} (settings : Settings) (zone : Zone) (h 
     → IsRun g zone image run left → ∥ LeavesHistory settings zone h run left ∥₁
 leaves settings zone h image left run is held was = ∥∥₁_map was.ended.left_so (λ found.
     let finds = of_run settings zone h image was.name was.opened was.last is held was.is_opened
-    was.ended.honest found.0 found.1 run was.done in
+    was.ended.honest (tables_held found.0) found.2 run was.done in
     let r : LeavesHistory settings zone h run left = record {
       life = finds.life;
       is_life = finds.is_life;
       history = finds.history;
-      holds = record { db = found.0; holds = found.2; tables = finds.tables };
+      holds = record { db = found.0; holds = found.1; tables = finds.tables };
     } in
     r)
 
@@ -141,23 +141,22 @@ leaves settings zone h image left run is held was = ∥∥₁_map was.ended.left
 pub unended_leaves : {D : Type 0} {g : Ghosts D} (settings : Settings) (zone : Zone) (h : History)
     (image : Image) (run : Run) (files : Files D) → IsHistory settings h → HoldHistory settings h image
     → (was : IsUnended g zone image run files) → (db : Trees) → MayFind was.last files was.ended db
-    → FindsHistory settings zone h run db
+    → FindsHistory settings zone h run (tables_held db)
 unended_leaves settings zone h image run files is held was db may =
-    let quiet = was.ended.closed.quiet in
     of_run settings zone h image was.name was.opened was.last is held was.is_opened
-    (omega (arith, quiet.clean, may.honest)) db (quiet.outcomes db may.recovers) run was.done
+    (omega (arith, was.ended.closed.clean, may.honest)) (tables_held db)
+    (was.ended.tables may.honest db may.recovers) run was.done
 
 pub made_holds : {D : Type 0} {g : Ghosts D} (settings : Settings) (name : List ℕ) (before left : Image)
-    (made : House (FileStore D g))
-    → IsMade (content over_files) is_failed (IsHonest over_files) (MayLeave over_files)
+    (made : House (Renumbered (FileStore D g)))
+    → IsMade (content over_order) is_failed (IsHonest over_order) (MayLeave over_order)
     name before name settings made
-    → IsHonest over_files made → MayHold made left → ∥ HoldHistory settings [] left ∥₁
+    → IsHonest over_order made → MayHold made left → ∥ HoldHistory settings [] left ∥₁
 made_holds settings name before left made is honest may = ∥∥₁_map may (λ found.
     let r : HoldHistory settings [] left = record {
       db = found.0;
-      holds = found.2;
-      tables = sym (is.begun.only honest (tables_in found.0) (found.0, found.1, refl)
-          ∙ is.empty honest);
+      holds = found.1;
+      tables = sym (is.begun.only honest (tables_held found.0) found.2 ∙ is.empty honest);
     } in
     r)
 

@@ -20,7 +20,7 @@ use Rattle.site_connections.specs.Turns.{Takes}
 use Rattle.site_connections.specs.declared.connection.Connection.{Connection}
 use Rattle.site_serve.specs.declared.server.ServeFault.{ServeFault}
 use Rattle.site_serve.specs.declared.server.Served.{Served}
-use Rattle.sqlite.specs.Files.{HoldsDatabase, over_files}
+use Rattle.sqlite.specs.Files.{HoldsDatabase}
 use Rattle.sqlite_disk.specs.declared.Disk.{Ghosts}
 use Rattle.sqlite_disk.specs.declared.Files.{Files}
 use Rattle.sqlite_store.specs.declared.store.FileStore.{FileStore}
@@ -30,10 +30,12 @@ use Rattle.sqlite_wal.specs.Reads.{AreClean}
 use Rattle.sqlite_wal.specs.Recovery.{Image}
 use Rattle.std.specs.Prelude.{Option, Result}
 use Rattle.store.specs.Closing.{IsEnded, IsLeft}
+use Rattle.store.specs.InOrder.{over_order}
 use Rattle.store.specs.Kept.{House, IsHonest, MayLeave, content, is_failed}
-use Rattle.store.specs.Opened.{IsMade, IsOpened, IsUpgraded}
-use Rattle.store.specs.Opening.{HoldsTables, tables_after}
-use Rattle.store_rows.specs.Tables.{tables_in}
+use Rattle.store_files.specs.Opened.{IsMade, IsOpened, IsUpgraded}
+use Rattle.store_files.specs.InOrder.{HoldsTables, tables_after}
+use Rattle.store_house.specs.Named.{tables_held}
+use Rattle.tree_order.specs.declared.renumbered.Renumbered.{Renumbered}
 use Rattle.lives.specs.Lives.{Answers, AreInTurn, Does, EndsAs, FindsTables, HoldHistory, IsAnswering, IsBegun, IsRunTo, Leaves, MayAnswer, MaySet, Run, Sets, over_disk}
 use Rattle.lives.proofs.Lives.{made_holds, was_honest}
 use Rattle.lives.proofs.Turns.{of_orders, of_some}
@@ -53,18 +55,18 @@ read_nothing content is_failed is_honest may_leave old new same = subst
 module _ {D : Type 0} {g : Ghosts D} (image left : Image) (name : List ℕ) (files : Files D)
     (clean : AreClean g files.log files.db) (outcome : outcomes g files.log files.db left) where
   -- whichever end it was
-  where_ended : {Is : (House (FileStore D g) → Type 0) → Type 0} (last : House (FileStore D g))
+  where_ended : {Is : (House (Renumbered (FileStore D g)) → Type 0) → Type 0} (last : House (Renumbered (FileStore D g)))
       → IsOver (IsEnded g) (IsLeft g) last files
-      → ((Ends : House (FileStore D g) → Type 0) → Ends last → Is Ends) → EndsAs g left files Is
+      → ((Ends : House (Renumbered (FileStore D g)) → Type 0) → Ends last → Is Ends) → EndsAs g left files Is
   where_ended last (inl ended) is = inl (is (Leaves g left) (record {
     honest = (ended.kept clean).honest;
     left_so = (ended.kept clean).left left outcome;
   }))
   where_ended last (inr not) is = inr (is (λ keep. IsLeft g keep files) not)
 
-  abbrev run_of : (Ends : House (FileStore D g) → Type 0) (zone : Zone) (run : Run)
-      (opened last : House (FileStore D g))
-      → IsOpened (content over_files) is_failed (IsHonest over_files) (MayLeave over_files)
+  abbrev run_of : (Ends : House (Renumbered (FileStore D g)) → Type 0) (zone : Zone) (run : Run)
+      (opened last : House (Renumbered (FileStore D g)))
+      → IsOpened (content over_order) is_failed (IsHonest over_order) (MayLeave over_order)
       name image name opened
       → Does (over_disk g) zone run opened last → Ends last → IsRunTo g zone image run Ends
   run_of Ends zone run opened last is_opened done ended = record {
@@ -77,10 +79,10 @@ module _ {D : Type 0} {g : Ghosts D} (image left : Image) (name : List ℕ) (fil
   }
 
   -- it was only read
-  read_run : (Ends : House (FileStore D g) → Type 0) (opened last : House (FileStore D g))
-      → IsOpened (content over_files) is_failed (IsHonest over_files) (MayLeave over_files)
+  read_run : (Ends : House (Renumbered (FileStore D g)) → Type 0) (opened last : House (Renumbered (FileStore D g)))
+      → IsOpened (content over_order) is_failed (IsHonest over_order) (MayLeave over_order)
       name image name opened
-      → IsRead (content over_files) is_failed (IsHonest over_files) (MayLeave over_files) opened last
+      → IsRead (content over_order) is_failed (IsHonest over_order) (MayLeave over_order) opened last
       → Ends last → (zone : Zone) → IsRunTo g zone image (Answers [] []) Ends
   read_run Ends opened last is_opened read ended zone =
       run_of Ends zone (Answers [] []) opened last is_opened (record {
@@ -91,31 +93,31 @@ module _ {D : Type 0} {g : Ghosts D} (image left : Image) (name : List ℕ) (fil
         read = read;
       }) ended
 
-  pub readings_are_runs : HasDone (IsOpened (content over_files) is_failed (IsHonest over_files)
-      (MayLeave over_files) name image name) (IsReadOver (content over_files) is_failed
-      (IsHonest over_files) (MayLeave over_files) (IsEnded g) (IsLeft g)) files
+  pub readings_are_runs : HasDone (IsOpened (content over_order) is_failed (IsHonest over_order)
+      (MayLeave over_order) name image name) (IsReadOver (content over_order) is_failed
+      (IsHonest over_order) (MayLeave over_order) (IsEnded g) (IsLeft g)) files
       → EndsAs g left files (λ Ends. (zone : Zone) → IsRunTo g zone image (Answers [] []) Ends)
   readings_are_runs run = where_ended run.done.last run.done.over (λ Ends ended.
       read_run Ends run.given run.done.last run.begun run.done.read ended)
 
   -- the zone that is kept is that which was
-  zone_of_opened : (opened begun : House (FileStore D g)) (zone : Zone)
-      → IsBegun (over_disk g) opened begun → IsHonest over_files begun
-      → IsZoneOf (content over_files begun).settings.zone zone
-      → IsZoneOf (content over_files opened).settings.zone zone
+  zone_of_opened : (opened begun : House (Renumbered (FileStore D g))) (zone : Zone)
+      → IsBegun (over_disk g) opened begun → IsHonest over_order begun
+      → IsZoneOf (content over_order begun).settings.zone zone
+      → IsZoneOf (content over_order opened).settings.zone zone
   zone_of_opened opened begun zone (inl same) honest kept =
-      subst (λ k. IsZoneOf (content over_files k).settings.zone zone) same kept
+      subst (λ k. IsZoneOf (content over_order k).settings.zone zone) same kept
   zone_of_opened opened begun zone (inr (read, works)) honest kept =
       subst (λ t. IsZoneOf t.settings.zone zone) (read.same honest works) kept
 
   -- messages in turn, by the zone that was kept
-  answers_run : (Ends : House (FileStore D g) → Type 0) (opened begun last : House (FileStore D g))
+  answers_run : (Ends : House (Renumbered (FileStore D g)) → Type 0) (opened begun last : House (Renumbered (FileStore D g)))
       (zone : Zone)
-      → IsOpened (content over_files) is_failed (IsHonest over_files) (MayLeave over_files)
+      → IsOpened (content over_order) is_failed (IsHonest over_order) (MayLeave over_order)
       name image name opened
       → IsBegun (over_disk g) opened begun
-      → (IsHonest over_files begun → IsZoneOf (content over_files begun).settings.zone zone)
-      → AreInTurn (IsStep (content over_files) is_failed (IsHonest over_files) (MayLeave over_files)
+      → (IsHonest over_order begun → IsZoneOf (content over_order begun).settings.zone zone)
+      → AreInTurn (IsStep (content over_order) is_failed (IsHonest over_order) (MayLeave over_order)
       zone) begun last
       → Ends last → IsAnswering g image Ends
   answers_run Ends opened begun last zone is_opened so kept turn ended = record {
@@ -127,18 +129,18 @@ module _ {D : Type 0} {g : Ghosts D} (image left : Image) (name : List ℕ) (fil
       so = so;
       after = last;
       turn = turn.turn;
-      read = read_nothing (content over_files) is_failed (IsHonest over_files)
-          (MayLeave over_files) last last refl;
+      read = read_nothing (content over_order) is_failed (IsHonest over_order)
+          (MayLeave over_order) last last refl;
     }) ended;
     kept_zone = λ fine.
-        let honest = was_honest (content over_files) is_failed (IsHonest over_files)
-        (MayLeave over_files) zone turn.asked turn.replies begun last turn.turn fine in
+        let honest = was_honest (content over_order) is_failed (IsHonest over_order)
+        (MayLeave over_order) zone turn.asked turn.replies begun last turn.turn fine in
         zone_of_opened opened begun zone so honest (kept honest);
   }
 
-  pub imports_are_runs : (by : Lister) → HasDone (IsOpened (content over_files) is_failed
-      (IsHonest over_files) (MayLeave over_files) name image name) (IsOrderedOver (content over_files)
-      is_failed (IsHonest over_files) (MayLeave over_files) (IsEnded g) (IsLeft g) by) files
+  pub imports_are_runs : (by : Lister) → HasDone (IsOpened (content over_order) is_failed
+      (IsHonest over_order) (MayLeave over_order) name image name) (IsOrderedOver (content over_order)
+      is_failed (IsHonest over_order) (MayLeave over_order) (IsEnded g) (IsLeft g) by) files
       → EndsAs g left files (MayAnswer g image)
   imports_are_runs by run = where_ended run.done.last run.done.over (λ Ends ended.
       elim run.done.ordered [
@@ -148,8 +150,8 @@ module _ {D : Type 0} {g : Ghosts D} (image left : Image) (name : List ℕ) (fil
             (of_orders _ by ordered.asked run.done.last ordered.ordered) ended)
       ])
 
-  pub settings_are_runs : (moment : ℕ) → HasDone (IsOpened (content over_files) is_failed
-      (IsHonest over_files) (MayLeave over_files) name image name)
+  pub settings_are_runs : (moment : ℕ) → HasDone (IsOpened (content over_order) is_failed
+      (IsHonest over_order) (MayLeave over_order) name image name)
       (MayHaveSetTable (over_disk g) (IsEnded g) (IsLeft g) moment) files
       → EndsAs g left files (MaySet g image moment)
   settings_are_runs moment run =
@@ -165,14 +167,14 @@ module _ {D : Type 0} {g : Ghosts D} (image left : Image) (name : List ℕ) (fil
   pub servings_are_runs : {C R W : Type 0} (input : source.Ghosts R) (output : sink.Ghosts W)
       (accepts : C → Result (Option (Connection R W)) Failure → C → Type 0)
       (ends : C → Connection R W → Result Served ServeFault → C → Type 0) (most count : ℕ)
-      → HasDone (IsOpened (content over_files) is_failed (IsHonest over_files) (MayLeave over_files)
+      → HasDone (IsOpened (content over_order) is_failed (IsHonest over_order) (MayLeave over_order)
       name image name) (IsServedOver (over_disk g) (IsEnded g) (IsLeft g)
       (λ zone. Takes (over_disk g) input output accepts ends zone most) count) files
       → EndsAs g left files (MayAnswer g image)
   servings_are_runs input output accepts ends most count run =
       where_ended run.done.last run.done.over (λ Ends ended. elim run.done.answered [
         | inl same ↦ inl (read_run Ends run.given run.done.last run.begun (read_nothing
-            (content over_files) is_failed (IsHonest over_files) (MayLeave over_files) run.given
+            (content over_order) is_failed (IsHonest over_order) (MayLeave over_order) run.given
             run.done.last same) ended)
         | inr some ↦ inr (answers_run Ends run.given run.given run.done.last some.zone run.begun
             (inl refl) some.kept_zone
@@ -181,23 +183,22 @@ module _ {D : Type 0} {g : Ghosts D} (image left : Image) (name : List ℕ) (fil
       ])
 
   -- of a keep that could not be ended its tables alone are found
-  finds_tables : (keep : House (FileStore D g))
-      → Rattle.store.specs.Opened.IsBegun (content over_files) is_failed (IsHonest over_files)
-      (MayLeave over_files) keep
+  finds_tables : (keep : House (Renumbered (FileStore D g)))
+      → Rattle.store_files.specs.Opened.IsBegun (content over_order) is_failed (IsHonest over_order)
+      (MayLeave over_order) keep
       → (not : IsLeft g keep files) (P : Tables → Type 0)
-      → (IsHonest over_files keep → P (content over_files keep)) → FindsTables g files P
+      → (IsHonest over_order keep → P (content over_order keep)) → FindsTables g files P
   finds_tables keep begun not P so = record {
     keep = keep;
     left = not;
     tables = λ db may.
-        let fine : IsHonest over_files keep = omega (arith, not.closed.quiet.clean, may.honest) in
-        subst P (sym (begun.only fine (tables_in db)
-        (db, not.closed.quiet.outcomes db may.recovers, refl))) (so fine);
+        let fine : IsHonest over_order keep = omega (arith, not.closed.clean, may.honest) in
+        subst P (sym (begun.only fine (tables_held db) (not.tables may.honest db may.recovers))) (so fine);
   }
 
   pub makings_leave_no_history : (words : HouseWords)
-      → HasDone (IsMadeBy (IsMade (content over_files) is_failed (IsHonest over_files)
-      (MayLeave over_files) name image name) words) (IsOver (IsEnded g) (IsLeft g)) files
+      → HasDone (IsMadeBy (IsMade (content over_order) is_failed (IsHonest over_order)
+      (MayLeave over_order) name image name) words) (IsOver (IsEnded g) (IsLeft g)) files
       → (settings : Settings) × IsSetBy words settings
       × (∥ HoldHistory settings [] left ∥₁ ⊎ FindsTables g files (λ t. t ≡ tables_of settings []))
   makings_leave_no_history words run = (
@@ -211,8 +212,8 @@ module _ {D : Type 0} {g : Ghosts D} (image left : Image) (name : List ℕ) (fil
     ],
   )
 
-  pub upgrades_leave_the_tables : HasDone (IsUpgradedAs (IsUpgraded (content over_files) is_failed
-      (IsHonest over_files) (MayLeave over_files) name image name)) (IsOver (IsEnded g) (IsLeft g)) files
+  pub upgrades_leave_the_tables : HasDone (IsUpgradedAs (IsUpgraded (content over_order) is_failed
+      (IsHonest over_order) (MayLeave over_order) name image name)) (IsOver (IsEnded g) (IsLeft g)) files
       → (was_first : Bool) × ((db : Trees) → HoldsDatabase image db
       → ∥ HoldsTables left (tables_after was_first db) ∥₁
       ⊎ FindsTables g files (λ t. t ≡ tables_after was_first db))
@@ -225,8 +226,8 @@ module _ {D : Type 0} {g : Ghosts D} (image left : Image) (name : List ℕ) (fil
           ∥∥₁_map ((ended.kept clean).left left outcome) (λ found.
           let r : HoldsTables left (tables_after run.begun.was_first db) = record {
             db = found.0;
-            holds = found.2;
-            tables = sym (is.begun.only honest (tables_in found.0) (found.0, found.1, refl)
+            holds = found.1;
+            tables = sym (is.begun.only honest (tables_held found.0) found.2
                 ∙ is.found refl honest db holds);
           } in
           r))

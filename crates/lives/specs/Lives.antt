@@ -23,25 +23,26 @@ use Rattle.sqlite_store.specs.FileStore.{recovers, view}
 use Rattle.sqlite_store.specs.declared.store.FileStore.{FileStore}
 use Rattle.sqlite_trees.specs.Tree.{Trees}
 use Rattle.sqlite_trees.specs.View.{IsClean}
-use Rattle.sqlite.specs.Files.{over_files}
 use Rattle.sqlite_wal.specs.Recovery.{Image}
-use Rattle.store.specs.Closing.{IsLeft}
+use Rattle.store.specs.Closing.{IsLeft, MayHold}
+use Rattle.store.specs.InOrder.{over_order}
 use Rattle.store.specs.Kept.{House, IsHonest, MayLeave, content, is_failed}
-use Rattle.store.specs.Opened.{IsOpened}
-use Rattle.store.specs.Opening.{HoldsTables, MayHold}
-use Rattle.store_rows.specs.Tables.{tables_in}
+use Rattle.store_files.specs.Opened.{IsOpened}
+use Rattle.store_files.specs.InOrder.{HoldsTables}
+use Rattle.store_house.specs.Named.{tables_held}
+use Rattle.tree_order.specs.declared.renumbered.Renumbered.{Renumbered}
 
 -- files hold the tables of a history
 abbrev pub HoldHistory : Settings → History → Image → Type 0
 HoldHistory settings h image = HoldsTables image (tables_of settings h)
 
 -- a keep of a house in files
-abbrev pub over_disk : {D : Type 0} → (g : disk.Ghosts D) → keep.Ghosts (House (FileStore D g))
+abbrev pub over_disk : {D : Type 0} → (g : disk.Ghosts D) → keep.Ghosts (House (Renumbered (FileStore D g)))
 over_disk g = record {
-  content = content over_files;
+  content = content over_order;
   is_failed = is_failed;
-  is_honest = IsHonest over_files;
-  may_leave = MayLeave over_files;
+  is_honest = IsHonest over_order;
+  may_leave = MayLeave over_order;
 }
 
 -- ---- runs
@@ -80,19 +81,19 @@ Does k zone (Sets moment bands) opened last =
 
 -- A keep was opened over files that held this, this was done over it, and then it ended so.
 pub record IsRunTo {D : Type 0} (g : disk.Ghosts D) (zone : Zone) (image : Image) (run : Run)
-    (Ends : House (FileStore D g) → Type 0) : Type 0 where
-  pub opened : House (FileStore D g)
+    (Ends : House (Renumbered (FileStore D g)) → Type 0) : Type 0 where
+  pub opened : House (Renumbered (FileStore D g))
   pub name : List ℕ
-  pub is_opened : IsOpened (content over_files) is_failed (IsHonest over_files)
-      (MayLeave over_files) name image name opened
-  pub last : House (FileStore D g)
+  pub is_opened : IsOpened (content over_order) is_failed (IsHonest over_order)
+      (MayLeave over_order) name image name opened
+  pub last : House (Renumbered (FileStore D g))
   pub done : Does (over_disk g) zone run opened last
   pub ended : Ends last
 
 -- this was left of its files, by a crash at that moment or since it was ended; its disk was honest
-pub record Leaves {D : Type 0} (g : disk.Ghosts D) (left : Image) (keep : House (FileStore D g)) :
+pub record Leaves {D : Type 0} (g : disk.Ghosts D) (left : Image) (keep : House (Renumbered (FileStore D g))) :
     Type 0 where
-  pub honest : IsHonest over_files keep
+  pub honest : IsHonest over_order keep
   pub left_so : MayHold keep left
 
 -- a run that left this of the files
@@ -104,43 +105,43 @@ abbrev pub IsUnended : {D : Type 0} → (g : disk.Ghosts D) → Zone → Image �
 IsUnended g zone image run files = IsRunTo g zone image run (λ keep. IsLeft g keep files)
 
 -- what an opening after a crash may find in that store, whose disk was honest
-pub record MayFind {D : Type 0} {g : disk.Ghosts D} (keep : House (FileStore D g)) (files : Files D)
+pub record MayFind {D : Type 0} {g : disk.Ghosts D} (keep : House (Renumbered (FileStore D g))) (files : Files D)
     (left : IsLeft g keep files) (db : Trees) : Type 0 where
   pub honest : IsClean (view left.store)
   pub recovers : recovers left.store db
 
--- so it is of the tables of whatever is found, of some keep that could not be ended
+-- so it is of the tables of whatever is found, by their names, of some keep that could not be ended
 pub record FindsTables {D : Type 0} (g : disk.Ghosts D) (files : Files D) (Are : Tables → Type 0) :
     Type 0 where
-  pub keep : House (FileStore D g)
+  pub keep : House (Renumbered (FileStore D g))
   pub left : IsLeft g keep files
-  pub tables : (db : Trees) → MayFind keep files left db → Are (tables_in db)
+  pub tables : (db : Trees) → MayFind keep files left db → Are (tables_held db)
 
 -- messages were answered, by the zone that was kept
 pub record IsAnswering {D : Type 0} (g : disk.Ghosts D) (image : Image)
-    (Ends : House (FileStore D g) → Type 0) : Type 0 where
+    (Ends : House (Renumbered (FileStore D g)) → Type 0) : Type 0 where
   pub zone : Zone
   pub asked : List Asked
   pub replies : List (List ℕ)
   pub run : IsRunTo g zone image (Answers asked replies) Ends
-  pub kept_zone : IsHonest over_files run.last
-      → IsZoneOf (content over_files run.opened).settings.zone zone
+  pub kept_zone : IsHonest over_order run.last
+      → IsZoneOf (content over_order run.opened).settings.zone zone
 
 -- some were, or none, which is so by whatever zone
-abbrev pub MayAnswer : {D : Type 0} → (g : disk.Ghosts D) → Image → (House (FileStore D g) → Type 0)
+abbrev pub MayAnswer : {D : Type 0} → (g : disk.Ghosts D) → Image → (House (Renumbered (FileStore D g)) → Type 0)
     → Type 0
 MayAnswer g image Ends = ((zone : Zone) → IsRunTo g zone image (Answers [] []) Ends)
     ⊎ IsAnswering g image Ends
 
 -- a band table was set, or was not, which is so by whatever zone
-abbrev pub MaySet : {D : Type 0} → (g : disk.Ghosts D) → Image → ℕ → (House (FileStore D g) → Type 0)
+abbrev pub MaySet : {D : Type 0} → (g : disk.Ghosts D) → Image → ℕ → (House (Renumbered (FileStore D g)) → Type 0)
     → Type 0
 MaySet g image moment Ends = (bands : List Band)
     × ((zone : Zone) → IsRunTo g zone image (Sets moment bands) Ends)
 
 -- So it is of a keep that was ended, of whose files this was left, or of one that could not be.
 abbrev pub EndsAs : {D : Type 0} → (g : disk.Ghosts D) → Image → Files D
-    → ((House (FileStore D g) → Type 0) → Type 0) → Type 0
+    → ((House (Renumbered (FileStore D g)) → Type 0) → Type 0) → Type 0
 EndsAs g left files Is = Is (Leaves g left) ⊎ Is (λ keep. IsLeft g keep files)
 
 -- ---- their lives
@@ -162,13 +163,13 @@ IsLifeIn settings zone h (Sets moment bands) life = (life ≡ life_of [])
     ⊎ ((verdict settings h moment 0 (SetBands bands) ≡ None)
     × (life ≡ life_of (setting moment bands ∷ [])))
 
--- a life of a run, and the tables of the history after it are those of a database
-pub record FindsHistory (settings : Settings) (zone : Zone) (h : History) (run : Run) (db : Trees) :
+-- a life of a run, and the tables of the history after it are these
+pub record FindsHistory (settings : Settings) (zone : Zone) (h : History) (run : Run) (t : Tables) :
     Type 0 where
   pub life : Life Asked
   pub is_life : IsLifeIn settings zone h run life
   pub history : IsHistory settings (life_history meant settings h life)
-  pub tables : tables_of settings (life_history meant settings h life) ≡ tables_in db
+  pub tables : tables_of settings (life_history meant settings h life) ≡ t
 
 -- a life of a run, after which the files hold the history after it
 pub record LeavesHistory (settings : Settings) (zone : Zone) (h : History) (run : Run)

@@ -27,17 +27,20 @@ ghost use Rattle.site.specs.Histories.{Steps};
 ghost use Rattle.site.specs.Runs.{meant};
 ghost use Rattle.site_connections.specs.Turns.{HasTakenSome, Takes};
 ghost use Rattle.site_request.specs.declared.asked.Asked.{Asked};
-ghost use Rattle.sqlite.specs.Files.{HoldsDatabase, over_files};
+ghost use Rattle.sqlite.specs.Files.{HoldsDatabase};
 ghost use Rattle.sqlite_disk.specs.declared.Files.{Files};
 ghost use Rattle.sqlite_store.specs.declared.store.FileStore.{FileStore};
 ghost use Rattle.sqlite_trees.specs.Tree.{Trees};
 ghost use Rattle.sqlite_wal.specs.Files.{outcomes};
 ghost use Rattle.sqlite_wal.specs.Reads.{AreClean};
 ghost use Rattle.sqlite_wal.specs.Recovery.{Image};
-ghost use Rattle.store.specs.Closing.{IsEnded, IsLeft};
+ghost use Rattle.store.specs.Closing.{IsEnded, IsLeft, MayHold};
+ghost use Rattle.store.specs.InOrder.{over_order};
 ghost use Rattle.store.specs.Kept.{House, IsHonest, MayLeave, content, is_failed};
-ghost use Rattle.store.specs.Opened.{IsMade, IsOpened, IsUpgraded};
-ghost use Rattle.store.specs.Opening.{HoldsTables, MayHold, tables_after};
+ghost use Rattle.store_files.specs.Opened.{IsMade, IsOpened, IsUpgraded};
+ghost use Rattle.store_files.specs.InOrder.{HoldsTables, tables_after};
+ghost use Rattle.store_house.specs.Named.{tables_held};
+ghost use Rattle.tree_order.specs.declared.renumbered.Renumbered.{Renumbered};
 
 use house_rows::Keep;
 use site_connections::Connections;
@@ -51,12 +54,13 @@ pub fn runs_leave_lives<D: Disk>()
 {}
 
 /// Where a keep could not be ended, what an opening after a crash may find in the store that is left has
-/// the tables of the history after a life of its run.
+/// the tables of the history after a life of its run, by their names.
 pub fn unended_runs_leave_lives<D: Disk>()
     ensures { (settings : Settings) (zone : Zone) (h : History) (image : Image) (run : Run)
         (files : Files D) → IsHistory settings h → HoldHistory settings h image
         → (was : IsUnended D.Disk zone image run files) → (db : Trees)
-        → MayFind was.last files was.ended db → FindsHistory settings zone h run db }
+        → MayFind was.last files was.ended db
+        → FindsHistory settings zone h run (tables_held db) }
 {}
 
 /// Files that held a history hold one after any number of runs, each over what the one before left of the files.
@@ -81,19 +85,19 @@ pub fn twin_lives_are_told_alike()
 /// happened yet.
 pub fn making_leaves_no_history<D: Disk>()
     ensures { (settings : Settings) (name : List ℕ) (before left : Image)
-        (made : House (FileStore D D.Disk))
-        → IsMade (content over_files) is_failed (IsHonest over_files) (MayLeave over_files)
+        (made : House (Renumbered (FileStore D D.Disk)))
+        → IsMade (content over_order) is_failed (IsHonest over_order) (MayLeave over_order)
         name before name settings made
-        → IsHonest over_files made → MayHold made left → ∥ HoldHistory settings [] left ∥₁ }
+        → IsHonest over_order made → MayHold made left → ∥ HoldHistory settings [] left ∥₁ }
 {}
 
 /// What is left of files in which a keep was ended is what a crash could leave of it: so a run may end
 /// in either.
 pub fn ends_leave_databases<D: Disk>()
-    ensures { (keep : House (FileStore D D.Disk)) (files : Files D) (left : Image)
+    ensures { (keep : House (Renumbered (FileStore D D.Disk))) (files : Files D) (left : Image)
         → IsEnded D.Disk keep files → AreClean D.Disk files.log files.db
         → outcomes D.Disk files.log files.db left
-        → IsHonest over_files keep × MayHold keep left }
+        → IsHonest over_order keep × MayHold keep left }
 {}
 
 /// Connections that were taken in turn are messages in turn, however taking them ended.
@@ -110,8 +114,8 @@ pub fn servings_are_runs<D: Disk, C: Connections>()
     ensures { (image left : Image) (name : List ℕ) (files : Files D)
         → AreClean D.Disk files.log files.db → outcomes D.Disk files.log files.db left
         → (most count : ℕ)
-        → HasDone (IsOpened (content over_files) is_failed (IsHonest over_files)
-        (MayLeave over_files) name image name)
+        → HasDone (IsOpened (content over_order) is_failed (IsHonest over_order)
+        (MayLeave over_order) name image name)
         (IsServedOver (over_disk D.Disk) (IsEnded D.Disk) (IsLeft D.Disk)
         (λ zone. Takes (over_disk D.Disk) C.Input.Source C.Output.Sink C.accepts C.ends zone most)
         count) files
@@ -123,10 +127,10 @@ pub fn imports_are_runs<D: Disk>()
     ensures { (image left : Image) (name : List ℕ) (files : Files D)
         → AreClean D.Disk files.log files.db → outcomes D.Disk files.log files.db left
         → (by : Lister)
-        → HasDone (IsOpened (content over_files) is_failed (IsHonest over_files)
-        (MayLeave over_files) name image name)
-        (IsOrderedOver (content over_files) is_failed (IsHonest over_files)
-        (MayLeave over_files) (IsEnded D.Disk) (IsLeft D.Disk) by) files
+        → HasDone (IsOpened (content over_order) is_failed (IsHonest over_order)
+        (MayLeave over_order) name image name)
+        (IsOrderedOver (content over_order) is_failed (IsHonest over_order)
+        (MayLeave over_order) (IsEnded D.Disk) (IsLeft D.Disk) by) files
         → EndsAs D.Disk left files (MayAnswer D.Disk image) }
 {}
 
@@ -134,10 +138,10 @@ pub fn imports_are_runs<D: Disk>()
 pub fn readings_are_runs<D: Disk>()
     ensures { (image left : Image) (name : List ℕ) (files : Files D)
         → AreClean D.Disk files.log files.db → outcomes D.Disk files.log files.db left
-        → HasDone (IsOpened (content over_files) is_failed (IsHonest over_files)
-        (MayLeave over_files) name image name)
-        (IsReadOver (content over_files) is_failed (IsHonest over_files)
-        (MayLeave over_files) (IsEnded D.Disk) (IsLeft D.Disk)) files
+        → HasDone (IsOpened (content over_order) is_failed (IsHonest over_order)
+        (MayLeave over_order) name image name)
+        (IsReadOver (content over_order) is_failed (IsHonest over_order)
+        (MayLeave over_order) (IsEnded D.Disk) (IsLeft D.Disk)) files
         → EndsAs D.Disk left files (λ Ends.
         (zone : Zone) → IsRunTo D.Disk zone image (Answers [] []) Ends) }
 {}
@@ -147,8 +151,8 @@ pub fn settings_are_runs<D: Disk>()
     ensures { (image left : Image) (name : List ℕ) (files : Files D)
         → AreClean D.Disk files.log files.db → outcomes D.Disk files.log files.db left
         → (moment : ℕ)
-        → HasDone (IsOpened (content over_files) is_failed (IsHonest over_files)
-        (MayLeave over_files) name image name)
+        → HasDone (IsOpened (content over_order) is_failed (IsHonest over_order)
+        (MayLeave over_order) name image name)
         (MayHaveSetTable (over_disk D.Disk) (IsEnded D.Disk) (IsLeft D.Disk) moment) files
         → EndsAs D.Disk left files (MaySet D.Disk image moment) }
 {}
@@ -158,8 +162,8 @@ pub fn makings_leave_no_history<D: Disk>()
     ensures { (image left : Image) (name : List ℕ) (files : Files D)
         → AreClean D.Disk files.log files.db → outcomes D.Disk files.log files.db left
         → (words : HouseWords)
-        → HasDone (IsMadeBy (IsMade (content over_files) is_failed (IsHonest over_files)
-        (MayLeave over_files) name image name) words)
+        → HasDone (IsMadeBy (IsMade (content over_order) is_failed (IsHonest over_order)
+        (MayLeave over_order) name image name) words)
         (IsOver (IsEnded D.Disk) (IsLeft D.Disk)) files
         → (settings : Settings) × IsSetBy words settings
         × (∥ HoldHistory settings [] left ∥₁
@@ -170,8 +174,8 @@ pub fn makings_leave_no_history<D: Disk>()
 pub fn upgrades_leave_the_tables<D: Disk>()
     ensures { (image left : Image) (name : List ℕ) (files : Files D)
         → AreClean D.Disk files.log files.db → outcomes D.Disk files.log files.db left
-        → HasDone (IsUpgradedAs (IsUpgraded (content over_files) is_failed (IsHonest over_files)
-        (MayLeave over_files) name image name)) (IsOver (IsEnded D.Disk) (IsLeft D.Disk)) files
+        → HasDone (IsUpgradedAs (IsUpgraded (content over_order) is_failed (IsHonest over_order)
+        (MayLeave over_order) name image name)) (IsOver (IsEnded D.Disk) (IsLeft D.Disk)) files
         → (was_first : Bool) × ((db : Trees) → HoldsDatabase image db
         → ∥ HoldsTables left (tables_after was_first db) ∥₁
         ⊎ FindsTables D.Disk files (λ t. t ≡ tables_after was_first db)) }

@@ -1,59 +1,95 @@
--- The last commit of a keep at rest is its house.
-use Rattle.std.proofs.Common.{◌≡◌, false, IsTrue, ap}
-use Rattle.std.proofs.Math.Logic.{∥∥₁_map}
-use Rattle.sqlite_disk.specs.declared.Disk.{Ghosts}
+-- What a connection in order that is closed leaves of its files.
+use Rattle.std.proofs.Common.{◌≡◌, ◌∙◌, IsTrue, ap, arith, refl, subst, sym}
+use Rattle.file_order.proofs.RecoveredLemmas.{are_databases, list_shaped}
+use Rattle.sqlite_disk.specs.declared.Disk as disk
 use Rattle.sqlite_disk.specs.declared.Files.{Files}
-use Rattle.sqlite_store.specs.FileStore.{files as store_files}
+use Rattle.sqlite_pool.proofs.StateLemmas.{clean_is, may_leave_is}
+use Rattle.sqlite_wal.proofs.LogLemmas.{SeenMayStay}
+use Rattle.sqlite_wal.specs.Files.{outcomes}
+use Rattle.sqlite_wal.specs.Reads.{AreClean}
+use Rattle.sqlite_wal.specs.Recovery.{Image}
+use Rattle.sqlite_trees.proofs.Doubt.{no_doubt}
+use Rattle.sqlite_trees.specs.Tree.{Trees}
+use Rattle.sqlite_trees.specs.View.{IsClean, IsQuiet, IsRolledBack as IsUndone}
+use Rattle.sqlite_store.specs.FileStore.{faults, files as store_files, is_shielded, recovers, view}
 use Rattle.sqlite_store.specs.Laws.{stays_at}
 use Rattle.sqlite_store.specs.declared.store.FileStore.{FileStore}
-use Rattle.sqlite_trees.specs.Tree.{Trees}
-use Rattle.sqlite_wal.proofs.LogLemmas.{SeenMayStay}
-use Rattle.sqlite_wal.specs.Reads.{AreClean}
-use Rattle.sqlite.specs.Closing.{IsCopied}
-use Rattle.sqlite.specs.Effect.{Database}
-use Rattle.sqlite.specs.Files.{HoldsDatabase, IsClosed, file_state}
+use Rattle.sqlite.proofs.Theorems.{copied}
+use Rattle.sqlite.specs.Held.{AreDatabases, Held}
 use Rattle.sqlite.specs.State.{HasCleanDisk}
-use Rattle.sqlite.specs.Held.{Held}
-use Rattle.store_rows.specs.Tables.{IsAtRest, tables_in}
-use Rattle.store.specs.Closing.{HoldHouse, HoldLeft, IsEnded, IsLeft}
-use Rattle.store.specs.Kept.{House}
+use Rattle.tree_order.specs.Shown.{shown_trees}
+use Rattle.tree_order.specs.declared.renumbered.Renumbered.{Renumbered}
+use Rattle.store_rows.specs.House.{IsHouse}
+use Rattle.store_rows.specs.Schema.{house_schema}
+use Rattle.store_house.specs.Named.{IsReordered}
+use Rattle.store.specs.Kept.{LeavesHouses}
+use Rattle.store_house.proofs.ArrangedLemmas.{found_in_order}
+use Rattle.store.specs.Closing.{IsClosed, IsCopied, IsEmptied}
+use Rattle.store.specs.InOrder.{order_state, over_order}
 
-pub house_held : {D : Type 0} {g : Ghosts D} (conn : Held (FileStore D g)) (files : Files D)
-    → IsCopied conn files → IsAtRest (file_state conn) → HoldHouse g files (tables_in (file_state conn).now.trees)
-house_held conn files copied rests =
-    let same : tables_in (file_state conn).now.trees ≡ tables_in (file_state conn).committed.trees = ap (λ (db : Database). tables_in db.trees) rests.settled in
-    record {
-      seen = record { db = (file_state conn).committed.trees; alone = copied.seen; tables = same };
-      left = λ image left. record { db = (file_state conn).committed.trees; alone = copied.left image left; tables = same };
+-- a crash may leave what was committed
+pub stays_shown : {D : Type 0} {g : disk.Ghosts D} (conn : Held (Renumbered (FileStore D g))) → SeenMayStay g → IsTrue (order_state conn).is_open
+    → (order_state conn).may_leave (order_state conn).committed.trees
+stays_shown conn stays is_open = ((view conn.store.inner).committed, stays_at conn.store.inner stays is_open, refl)
+
+module _ {D : Type 0} {g : disk.Ghosts D} (conn : Held (Renumbered (FileStore D g))) (back : Renumbered (FileStore D g))
+    (houses : LeavesHouses (order_state conn))
+    (quiet : IsQuiet over_order.view over_order.faults over_order.recovers over_order.is_shielded conn.store back)
+    (numbered : IsClean (view back.inner) → IsTrue (view back.inner).is_numbered) where
+  -- what a store shows is what it has, in some order
+  order_of : (below : Trees) → IsReordered below (shown_trees back.numbers below)
+  order_of below = record {
+    inner = back.numbers.inner.items;
+    outer = back.numbers.outer.items;
+    inverse = back.numbers.inverse;
+    shown = refl;
+  }
+
+  -- each database that a crash may leave obeys a schema in the order of its file
+  databases : IsClean (view back.inner) → AreDatabases (recovers back.inner)
+  databases clean =
+      let early : HasCleanDisk (order_state conn) = omega (arith, quiet.clean, clean) in
+      are_databases back.numbers.inner.items back.numbers.outer.items back.inner back.numbers.inverse (numbered clean)
+      (λ below may.
+      let shown : Trees = shown_trees back.numbers below in
+      (house_schema, (houses early shown (quiet.outcomes shown (below, may, refl))).sound, refl))
+
+  module _ (last : FileStore D g) (after : IsQuiet view faults recovers is_shielded back.inner last) where
+    pub is_closed : IsClosed conn last
+    is_closed = record {
+      clean = omega (arith, quiet.clean, after.clean);
+      sound = λ clean db may. databases (omega (arith, after.clean, clean)) db (after.outcomes db may);
+      crash = λ found may.
+          let shown : Trees = shown_trees back.numbers found in
+          (shown, quiet.outcomes shown (found, after.outcomes found may, refl), order_of found);
     }
 
--- files into which the last commit was copied hold what a crash could leave of their keep
-pub left_held : {D : Type 0} {g : Ghosts D} → SeenMayStay g → (keep : House (FileStore D g)) (files : Files D)
-    → IsCopied keep.conn files → HoldLeft g keep files
-left_held stays keep files copied = record {
-  honest = copied.was_clean;
-  left = λ image may. ∥∥₁_map (copied.left image may).both (λ holds.
-      let r : (db : Trees) × (file_state keep.conn).may_leave db × HoldsDatabase image db =
-      ((file_state keep.conn).committed.trees, stays_at keep.conn.store stays copied.was_open, holds) in
-      r);
-}
-
--- a keep whose connection was closed was ended
-pub ended : {D : Type 0} {g : Ghosts D} → SeenMayStay g → (keep : House (FileStore D g)) (files : Files D)
-    → IsTrue (g.is_usable files.log) × IsTrue (g.is_usable files.db)
-    → (keep.failed ≡ false → HasCleanDisk (file_state keep.conn) → IsAtRest (file_state keep.conn))
-    → (AreClean g files.log files.db → IsCopied keep.conn files) → IsEnded g keep files
-ended stays keep files usable rests copies = record {
-  log = usable.0;
-  file = usable.1;
-  house = λ clean works.
-      let copied = copies clean in
-      house_held keep.conn files copied (rests works copied.was_clean);
-  kept = λ clean. left_held stays keep files (copies clean);
-}
-
--- one whose connection could not be closed left its store
-pub not_ended : {D : Type 0} (g : Ghosts D) (keep : House (FileStore D g)) (files : Files D)
-    (store : FileStore D g) → (files.log, files.db) ≡ store_files store → IsClosed keep.conn store
-    → IsLeft g keep files
-not_ended g keep files store is closed = record { store = store; of_store = is; closed = closed }
+  pub is_copied : SeenMayStay g → IsUndone (over_order.view conn.store) (over_order.view back) → (last : FileStore D g) → IsEmptied back.inner last
+      → (files : Files D) → store_files last ≡ (files.log, files.db) → AreClean g files.log files.db → IsCopied conn files
+  is_copied stays undone last emptied files are honest =
+      let sure_now = subst (λ (p : D × D). AreClean g p.0 p.1) (sym are) honest in
+      let clean : IsClean (view last) = no_doubt _ (clean_is last.pool ∙ sure_now) in
+      let early : IsClean (view back.inner) = omega (arith, emptied.quiet.clean, clean) in
+      let on = emptied.is_open clean in
+      let was = emptied.was_open clean in
+      let kept = undone.kept early in
+      let db : Trees = (view last).committed in
+      let shown : (order_state conn).committed.trees ≡ shown_trees back.numbers db =
+      sym (kept.committed was) ∙ ap (shown_trees back.numbers) (sym (emptied.committed clean)) in
+      let order : IsReordered db (order_state conn).committed.trees = subst (IsReordered db) (sym shown) (order_of db) in
+      let was_open : IsTrue (order_state conn).is_open = kept.was_open was in
+      let was_clean : HasCleanDisk (order_state conn) = omega (arith, quiet.clean, early) in
+      let house : IsHouse (record { schema = house_schema; trees = (order_state conn).committed.trees }) = houses was_clean _ (stays_shown conn stays was_open) in
+      let sound : AreDatabases (recovers last) = λ found may. databases early found (emptied.quiet.outcomes found may) in
+      let each = λ (image : Image) (may : outcomes g files.log files.db image).
+      copied last stays on (emptied.numbered clean ∙ numbered early) sound (emptied.empty clean) image
+      (may_leave_is last.pool image sure_now (subst (λ (p : D × D). outcomes g p.0 p.1 image) (sym are) may)) in
+      record {
+        was_clean = was_clean;
+        was_open = was_open;
+        db = db;
+        order = order;
+        tables = found_in_order db (record { schema = house_schema; trees = (order_state conn).committed.trees }) (list_shaped last db (stays_at last stays on)) order house;
+        seen = each _ (stays _, stays _);
+        left = each;
+      }

@@ -1,6 +1,6 @@
 -- What a keep knows of its house: its band tables are those of the tables. And what it reports of a
 -- call that failed.
-use Rattle.std.proofs.Common.{◌≡◌, ◌∙◌, ℕ, List, Bool, true, false, ap, refl, subst, sym, arith, Option, Some, None, option_map}
+use Rattle.std.proofs.Common.{◌≡◌, ◌∙◌, ℕ, List, Bool, true, false, ap, refl, subst, sym, arith, Option, Some, None, find, option_map}
 use Rattle.house_rows.specs.Answered.{IsAnswered}
 use Rattle.std.specs.Prelude.{◌==◌, ◌&&◌, ◌↔◌, Err, IfSome, IsErrOf, option_and_then}
 use Rattle.std.proofs.lemmas.Bool.Decides.{nat_tests}
@@ -11,9 +11,9 @@ use Rattle.house_rows.specs.Taken.{FitWhere}
 use Rattle.house_rows.specs.Editions.{BandTables}
 use Rattle.proxy.specs.Kept.{Kept}
 use Rattle.house_rows.specs.Bids.{BidRow}
-use Rattle.house_rows.specs.Found.{auction_at, auction_of, reserve_at, row_at, standing_at}
+use Rattle.house_rows.specs.Found.{auction_at, auction_of, reserve_at, row_at, standing_at, terms_at}
 use Rattle.house_rows.specs.Changed.{is_item}
-use Rattle.house_rows.specs.Fits.{BidRowFits}
+use Rattle.house_rows.specs.Fits.{BidRowFits, StandingFits, TermsFit}
 use Rattle.house_rows.specs.Reached.{FitsSoFar}
 use Rattle.house_rows.specs.Tables.{ItemRow, Tables, band_tables}
 use Rattle.house_rows.proofs.Every.{every_as}
@@ -25,13 +25,16 @@ use Rattle.house_rows.specs.declared.item.Terms.{Terms}
 use Rattle.house_rows.specs.declared.people.Counts.{Counts}
 use Rattle.store_rows.specs.ItemRows.{items_in}
 use Rattle.store_rows.specs.Tables.{tables_in}
+use Rattle.store_items.specs.Seen.{IsThere}
+use Rattle.store.proofs.Remembered.{seen_there}
 use Rattle.store_items.specs.ConsistentRows.{ItemIsConsistent, RowFitsAt, RowsAreConsistent}
 use Rattle.store_rows.proofs.Sound.{rows_fit}
+use Rattle.store_items.proofs.Auctions.{terms_none as no_terms, terms_some as auction_terms}
 use Rattle.sqlite_trees.specs.declared.store.Store.{Ghosts}
 use Rattle.sqlite.specs.Held.{state}
 use Rattle.store_rows.specs.House.{ServesBy}
 use Rattle.store_rows.specs.declared.reserve.ReserveRow.{ReserveRow}
-use Rattle.store.specs.Kept.{House, IsKept, IsKnown, is_failed}
+use Rattle.store.specs.Kept.{House, IsKeptSeen, IsKnown, is_failed}
 
 -- rows that fit in the tables fit by band tables that are those of the tables
 module _ (db : Trees) (editions : BandTables) (same : band_tables (tables_in db) ≡ editions) where
@@ -44,7 +47,7 @@ module _ (db : Trees) (editions : BandTables) (same : band_tables (tables_in db)
       every_as (λ (row : ItemRow). is_item item row ≡ true → FitsBy editions row) (λ (row : ItemRow). row.item.terms.item ≡ item → FitsBy editions row) (items_in db)
       (λ row fit at. fit (grind (arith, nat_tests, at))) (where_by (is_item item) fits)
 
-module _ (db : Trees) (editions : BandTables) (reserves : List ReserveRow) (counts : Counts) (clock : ℕ) (known : IsKnown editions reserves counts clock db) where
+module _ {seen : Option Auction} (db : Trees) (editions : BandTables) (reserves : List ReserveRow) (counts : Counts) (clock : ℕ) (known : IsKnown editions reserves counts clock seen db) where
   pub known_sound : AreSound (tables_in db) → AreSoundBy editions (tables_in db)
   known_sound sound = record { sound = sound; same = sym known.editions_are }
 
@@ -63,6 +66,20 @@ module _ (db : Trees) (editions : BandTables) (reserves : List ReserveRow) (coun
 
   pub known_so_far : (member from : ℕ) → FitsSoFar (band_tables (tables_in db)) (tables_in db) member from → FitsSoFar editions (tables_in db) member from
   known_so_far member from = subst (λ (b : BandTables). FitsSoFar b (tables_in db) member from) known.editions_are
+
+  -- what was seen is what the tables have
+  pub seen_in : IfSome seen (λ a. IsThere (band_tables (tables_in db)) a.terms.item a db)
+  seen_in = subst (λ (b : BandTables). IfSome seen (λ a. IsThere b a.terms.item a db)) (sym known.editions_are) known.seen_is
+
+  seen_there_still : (a : Auction) → seen ≡ Some a → IsThere editions a.terms.item a db
+  seen_there_still a is = subst (λ (o : Option Auction). IfSome o (λ a. IsThere editions a.terms.item a db)) is known.seen_is
+
+  pub seen_auction : (a : Auction) (item : ℕ) → seen ≡ Some a → a.terms.item ≡ item → Some a ≡ auction_at (tables_in db) item
+  unfolding tables_in
+  seen_auction a item is same = sym (subst (λ (n : ℕ). option_map auction_of (find (is_item n) (items_in db)) ≡ Some a) same (seen_there_still a is).found)
+
+  pub seen_is_consistent : (a : Auction) → seen ≡ Some a → IsConsistentIn (tables_in db) a.terms
+  seen_is_consistent a is = subst (λ (b : BandTables). IsConsistentBy b a.terms) (sym known.editions_are) (seen_there_still a is).is_consistent
 
   -- what is consistent with the band tables that are known is consistent in the tables
   pub one_is_consistent : (item : Option Item) → IfSome item (λ it. IsConsistentBy editions it.terms) → IfSome item (λ it. IsConsistentIn (tables_in db) it.terms)
@@ -84,6 +101,35 @@ module _ (db : Trees) (editions : BandTables) (reserves : List ReserveRow) (coun
   -- so of what names an item
   pub each_is_consistent : {A : Type 0} (item : A → ℕ) (xs : List A) → AllByRecursion (λ x. ItemIsConsistent editions db (item x)) xs → AllByRecursion (λ x. IsConsistentAt (tables_in db) (item x)) xs
   each_is_consistent {A} item xs = subst (λ (b : BandTables). AllByRecursion (λ (x : A). ItemIsConsistent b db (item x)) xs) (sym known.editions_are)
+
+-- what was seen is so by band tables that are those of the tables
+pub seen_by : (db : Trees) (editions : BandTables) (seen : Option Auction) → editions ≡ band_tables (tables_in db)
+    → IfSome seen (λ a. IsThere (band_tables (tables_in db)) a.terms.item a db) → IfSome seen (λ a. IsThere editions a.terms.item a db)
+seen_by db editions seen same = subst (λ (b : BandTables). IfSome seen (λ a. IsThere b a.terms.item a db)) (sym same)
+
+-- what was seen is forgotten
+pub forgotten : {seen : Option Auction} (editions : BandTables) (reserves : List ReserveRow) (counts : Counts) (clock : ℕ) (db : Trees)
+    → IsKnown editions reserves counts clock seen db → IsKnown editions reserves counts clock None db
+forgotten editions reserves counts clock db known = record {
+  editions_are = known.editions_are;
+  reserves_are = known.reserves_are;
+  counts_are = known.counts_are;
+  clock_is = known.clock_is;
+  seen_is = tt;
+}
+
+-- and an item that was looked up is seen
+pub item_seen : {seen : Option Auction} (editions : BandTables) (reserves : List ReserveRow) (counts : Counts) (clock : ℕ) (item : ℕ) (found : Option Auction) (db : Trees)
+    → IsKnown editions reserves counts clock seen db → found ≡ option_map auction_of (find (is_item item) (items_in db))
+    → IfSome found (λ a. TermsFit a.terms × StandingFits a.standing) → IfSome found (λ a. IsConsistentBy editions a.terms)
+    → IsKnown editions reserves counts clock found db
+item_seen editions reserves counts clock item found db known is fits consistent = record {
+  editions_are = known.editions_are;
+  reserves_are = known.reserves_are;
+  counts_are = known.counts_are;
+  clock_is = known.clock_is;
+  seen_is = seen_there db editions item found is fits consistent;
+}
 
 -- a fault that is no damage is reported as none
 no_damage : (fault report : KeepFault) (failed : Bool) → (failed ≡ false → report ≡ fault) → ((report ≡ Store) ↔ (failed ≡ true))
@@ -117,7 +163,7 @@ failed_look {content = content} {is_failed = is_failed} {is_honest = is_honest} 
 }
 
 -- a keep that has not failed serves by the reserves that it knows
-pub known_serves : {S : Type 0} (g : Ghosts S) (k : House S) → IsKept g k → k.failed ≡ false → ServesBy k.reserves (state g k.conn)
+pub known_serves : {S : Type 0} {seen : Option Auction} (g : Ghosts S) (k : House S) → IsKeptSeen g seen k → k.failed ≡ false → ServesBy k.reserves (state g k.conn)
 known_serves g k kept going clean = let rest = kept.rests going clean in (rest.is_open, rest.house, (kept.known going clean).reserves_are)
 
 -- a keep that is seen not to have failed has not failed inside
@@ -144,6 +190,13 @@ standing_some t item a report = standing_same (row_at t item) (Some a) report
 
 pub standing_none : (t : Tables) (item : ℕ) → None ≡ auction_at t item → None ≡ standing_at t item
 standing_none t item report = standing_same (row_at t item) None report
+
+-- the terms of an item are those of its auction
+pub terms_some : (t : Tables) (item : ℕ) (a : Auction) → Some a ≡ auction_at t item → Some a.terms ≡ terms_at t item
+terms_some t item a report = auction_terms (row_at t item) a report
+
+pub terms_none : (t : Tables) (item : ℕ) → None ≡ auction_at t item → None ≡ terms_at t item
+terms_none t item report = no_terms (row_at t item) report
 
 -- the reserve of an item is that of its standing
 pub reserve_some : (t : Tables) (item : ℕ) (s : Kept) → Some s ≡ standing_at t item → s.reserve ≡ reserve_at t item

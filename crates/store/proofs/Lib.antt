@@ -3,10 +3,9 @@ pub mod Absent
 pub mod AbsentLists
 pub mod Begins
 pub mod Closed
-pub mod Crashed
+pub mod Ended
 pub mod Houses
 pub mod Known
 pub mod Moves
-pub mod Reopened
+pub mod Remembered
 pub mod Sound
-mod Images

@@ -1,5 +1,5 @@
 -- What a keep knows of the tables after a change.
-use Rattle.std.proofs.Common.{◌≡◌, ◌⊎◌, ◌+◌, ℕ, List, length, Bool, true, false, true≢false, Result, Ok, Err, refl, ap, ap₂, sym, subst, ◌∙◌, inl, inr, arith}
+use Rattle.std.proofs.Common.{◌≡◌, ◌⊎◌, ◌+◌, ℕ, List, length, Bool, true, false, true≢false, Result, Ok, Err, Option, None, refl, ap, ap₂, sym, subst, ◌∙◌, inl, inr, arith}
 use Rattle.std.specs.Prelude.{◌<◌, ◌≤◌, All, IsTrue, OnOk, is_err}
 use Rattle.house_rows.specs.Limits.{most_editions, most_items}
 use Rattle.std.proofs.lemmas.List.{length-append, length-map}
@@ -12,6 +12,7 @@ use Rattle.house_rows.specs.Fits.{IsMoment}
 use Rattle.house_rows.specs.Found.{counts_of}
 use Rattle.house_rows.specs.Making.{ChangeRowsFit}
 use Rattle.house_rows.specs.Tables.{Tables, band_tables}
+use Rattle.house_rows.specs.declared.auction.Auction.{Auction}
 use Rattle.house_rows.specs.declared.change.Change.{Change}
 use Rattle.house_rows.specs.declared.change.Change.TheVariants.{Register, AddCategory, List as Listed, Bid, Buy, Close, Settle, Watch, Unwatch, Ask, Answer, Feedback, SetBands}
 use Rattle.house_rows.specs.declared.people.Counts.{Counts}
@@ -101,8 +102,8 @@ next_number (Feedback moment item from to rating text) reserves counts many same
 next_number (SetBands moment bands) reserves counts many same = refl
 
 -- what was known is known of the tables after the change
-pub known_after : (editions : BandTables) (reserves : List ReserveRow) (counts : Counts) (clock : ℕ) (change : Change) (old new : Database)
-    → IsKnown editions reserves counts clock old.trees → Changes change old new → IsKnown (with_table editions (counts_after counts change).items (bands_set change)) (reserves_after reserves (counts_after counts change).items change) (counts_after counts change) (clock_after clock change) new.trees
+pub known_after : {seen : Option Auction} (editions : BandTables) (reserves : List ReserveRow) (counts : Counts) (clock : ℕ) (change : Change) (old new : Database)
+    → IsKnown editions reserves counts clock seen old.trees → Changes change old new → IsKnown (with_table editions (counts_after counts change).items (bands_set change)) (reserves_after reserves (counts_after counts change).items change) (counts_after counts change) (clock_after clock change) None new.trees
 known_after editions reserves counts clock change old new known made = let is = made.tables in record {
   editions_are = ap band_tables is ∙ editions_move (tables_in old.trees) change
       ∙ ap₂ (λ (b : BandTables) (k : Counts). with_table b (counts_after k change).items (bands_set change)) known.editions_are known.counts_are;
@@ -111,6 +112,7 @@ known_after editions reserves counts clock change old new known made = let is = 
       ∙ sym made.reserves;
   counts_are = ap counts_of is ∙ (counts_move (tables_in old.trees) change ∙ ap (λ c. counts_after c change) known.counts_are);
   clock_is = ap (λ t. t.clock) is ∙ (clock_moves (tables_in old.trees) change ∙ ap (λ c. clock_after c change) known.clock_is);
+  seen_is = tt;
 }
 
 -- the moment of a change that fits is one
@@ -130,8 +132,8 @@ fits_moment t (Feedback moment item from to rating text) clock is fits = fits.mo
 fits_moment t (SetBands moment bands) clock is fits = fits.moment_fits
 
 -- what a change adds can be added to rules that are known
-pub can_add : (db : Trees) (rules : Rules) (counts : Counts) (clock : ℕ) (change : Change)
-    → IsKnown rules.editions rules.reserves counts clock db → IsNumbered db
+pub can_add : {seen : Option Auction} (db : Trees) (rules : Rules) (counts : Counts) (clock : ℕ) (change : Change)
+    → IsKnown rules.editions rules.reserves counts clock seen db → IsNumbered db
     → ChangeFits (tables_in db) change → ChangeRowsFit (tables_in db) change
     → CanAdd rules (counts_after counts change).items change
 can_add db rules counts clock (Register moment name) known numbered fits rows = tt

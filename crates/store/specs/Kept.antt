@@ -1,15 +1,16 @@
 -- What a house in SQLite is to its callers.
-use Rattle.std.specs.Prelude.{◌≡◌, ℕ, List, Bool, false, refl}
+use Rattle.std.specs.Prelude.{◌≡◌, ℕ, List, Option, None, IfSome, Bool, false, refl}
 use Rattle.steps.specs.Table.{Band}
 use Rattle.std.specs.Coded.{Coded, code_by, coded×, coded_ℕ, coded_bool, coded_list}
 use Rattle.sqlite_trees.specs.declared.store.Store.{Ghosts}
 use Rattle.sqlite_trees.specs.Tree.{Trees}
 use Rattle.sqlite.specs.Held.{Held, held_code, state}
 use Rattle.sqlite.specs.State.{HasCleanDisk, State}
-use Rattle.house_rows.specs.Fits.{IsMoment}
+use Rattle.house_rows.specs.Fits.{IsMoment, StandingFits, TermsFit}
 use Rattle.house_rows.specs.Found.{counts_of}
 use Rattle.house_rows.specs.Editions.{BandTables}
 use Rattle.house_rows.specs.Tables.{Tables, band_tables}
+use Rattle.house_rows.specs.declared.auction.Auction.{Auction}
 use Rattle.house_rows.specs.declared.people.Counts.{Counts}
 use Rattle.house_rows.specs.declared.edition.Edition.{Edition}
 use Rattle.house_rows.specs.declared.settings.Settings.{Settings}
@@ -18,6 +19,7 @@ use Rattle.store_rows.specs.House.{IsHouse}
 use Rattle.store_rows.specs.Rows.{reserves_in}
 use Rattle.store_rows.specs.Schema.{house_schema}
 use Rattle.store_rows.specs.Tables.{IsAtRest, tables_in}
+use Rattle.store_items.specs.Seen.{IsThere}
 
 -- the connection, and what is known of its tables without asking it
 pub record House (S : Type 0) : Type 0 where
@@ -74,26 +76,32 @@ house_code {S} store =
     (λ p. record { conn = p.0; editions = p.1.0; reserves = p.1.1.0; counts = p.1.1.1.0; clock = p.1.1.1.1.0; failed = p.1.1.1.1.1 })
     (λ _. refl)
 
--- what is known of the tables is so
-pub record IsKnown (editions : BandTables) (reserves : List ReserveRow) (counts : Counts) (clock : ℕ) (db : Trees) : Type 0 where
+-- what is known of the tables is so, and what was seen of an item's row last, if anything was
+pub record IsKnown (editions : BandTables) (reserves : List ReserveRow) (counts : Counts) (clock : ℕ) (seen : Option Auction) (db : Trees) : Type 0 where
   pub editions_are : band_tables (tables_in db) ≡ editions
   pub reserves_are : reserves ≡ reserves_in db
   pub counts_are : counts_of (tables_in db) ≡ counts
   pub clock_is : (tables_in db).clock ≡ clock
+  pub seen_is : IfSome seen (λ a. IsThere editions a.terms.item a db)
 
 -- what a crash may leave is a house, as far as the disk was honest
 abbrev pub LeavesHouses : State → Type 0
 LeavesHouses s = HasCleanDisk s → (db : Trees) → s.may_leave db
     → IsHouse (record { schema = house_schema; trees = db })
 
--- No transaction is open; and until it failed, a house is committed, as far as the disk was honest. A crash leaves a house
--- whether it failed or not.
-pub record IsKept {S : Type 0} (g : Ghosts S) (k : House S) : Type 0 where
+-- No transaction is open; and until it failed, a house is committed, as far as the disk was honest, and an item that was seen
+-- last is as it was seen. A crash leaves a house whether it failed or not.
+pub record IsKeptSeen {S : Type 0} (g : Ghosts S) (seen : Option Auction) (k : House S) : Type 0 where
   pub idle : k.conn.in_transaction ≡ false
   pub moment : IsMoment k.clock
   pub rests : k.failed ≡ false → HasCleanDisk (state g k.conn) → IsAtRest (state g k.conn)
-  pub known : k.failed ≡ false → HasCleanDisk (state g k.conn) → IsKnown k.editions k.reserves k.counts k.clock (state g k.conn).now.trees
+  pub known : k.failed ≡ false → HasCleanDisk (state g k.conn) → IsKnown k.editions k.reserves k.counts k.clock seen (state g k.conn).now.trees
+  pub seen_fits : IfSome seen (λ a. TermsFit a.terms × StandingFits a.standing)
   pub houses : LeavesHouses (state g k.conn)
+
+-- whatever was seen
+abbrev pub IsKept : {S : Type 0} → Ghosts S → House S → Type 0
+IsKept g k = IsKeptSeen g None k
 
 -- ---- what the clauses of a keep speak of
 

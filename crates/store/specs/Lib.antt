@@ -1,6 +1,4 @@
 pub mod After
 pub mod Kept
 pub mod Closing
-pub mod Opening
-pub mod Opened
-pub mod Copies
+pub mod InOrder

@@ -13,9 +13,10 @@ ghost use Rattle.steps.specs.Table.{IsBandTable};
 ghost use Rattle.store_rows.specs.Rows.{edition_rows_in, reserves_in};
 ghost use Rattle.store_rows.specs.Tables.{Rests, reserves_after, tables_in};
 ghost use Rattle.store_rows.specs.Commits.{Commits};
+ghost use Rattle.store_items.specs.Seen.{IsSeen};
 ghost use Rattle.store.specs.After.{bands_set, counts_after, with_table};
 
-use house_rows::{Change, Counts, KeepFault};
+use house_rows::{Auction, Change, Counts, KeepFault};
 use sqlite::{Alter, Connection};
 use std::alloc::Global;
 use store_bids::bid;
@@ -54,11 +55,13 @@ fn set_next<S: Alter>(
     set_bands(conn, edition, first, moment, bands)
 }
 
-/// Makes a change. The counts and the rules are those after it.
+/// Makes a change. The counts and the rules are those after it, and what was seen of an item is so
+/// before it.
 pub(crate) fn make_change<S: Alter>(
     alloc: Global,
     conn: &mut Connection<S>,
     rules: &Rules,
+    seen: &Option<Auction>,
     after: Counts,
     change: &Change<'_>,
 ) -> Result<(), KeepFault>
@@ -73,6 +76,8 @@ pub(crate) fn make_change<S: Alter>(
         → after ≡ counts_after (counts_of (tables_in
         (state S.Store conn.old).now.trees)) change.now }
     requires valid { IfSome (bands_set change.now) IsBandTable }
+    requires seen { IsSeen (band_tables (tables_in (state S.Store conn.old).now.trees)) seen.now
+        (state S.Store conn.old) }
     ensures commit { Commits change.now (state S.Store conn.old) (state S.Store conn.new) result }
     ensures taken { HasCleanDisk (state S.Store conn.new)
         → OnOk result (IsFree (tables_in (state S.Store conn.old).now.trees) change.now) }
@@ -93,14 +98,14 @@ pub(crate) fn make_change<S: Alter>(
             item,
             placed,
             standing,
-        } => bid(conn, rules, moment, item, placed, &standing),
+        } => bid(conn, rules, seen, moment, item, placed, &standing),
         Change::Buy {
             moment,
             item,
             buyer,
             price,
-        } => buy(conn, rules, moment, item, buyer, price),
-        Change::Settle { moment, item } => settle(conn, rules, moment, item),
+        } => buy(conn, rules, seen, moment, item, buyer, price),
+        Change::Settle { moment, item } => settle(conn, rules, seen, moment, item),
         Change::Watch { member, item } => watch(conn, member, item),
         Change::Unwatch { member, item } => unwatch(conn, member, item),
         Change::Ask {

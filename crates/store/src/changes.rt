@@ -49,7 +49,15 @@ impl<S: Alter> SqlKeep<S> {
         };
         // What may lack memory comes before the commit: taking it back doesn't.
         add_rules(self.alloc, &mut self.rules, counts, change)?;
-        match make_change(self.alloc, &mut self.conn, &self.rules, counts, change) {
+        let seen = self.seen.take();
+        match make_change(
+            self.alloc,
+            &mut self.conn,
+            &self.rules,
+            &seen,
+            counts,
+            change,
+        ) {
             Ok(()) => {
                 self.counts = counts;
                 self.clock = clock;

@@ -25,7 +25,7 @@ use store_house::{
     member_named,
 };
 use store_items::{
-    all_items, auction_at, item_at, item_with_lot, items_in, reserves_of, sales_to, terms_at,
+    all_items, auction_at, item_at, item_with_lot, items_in, reserves_of, sales_to, seen_at,
 };
 use store_rows::Rules;
 use store_selling::due;
@@ -56,10 +56,13 @@ pub struct SqlKeep<S: Alter> {
     pub(crate) counts: Counts,
     pub(crate) clock: u64,
     pub(crate) failed: bool,
+    // The item that was looked up last, so that a change of it doesn't look it up again. A change
+    // forgets it.
+    pub(crate) seen: Option<Auction>,
 }
 
 impl<S: Alter> Model for SqlKeep<S> {
-    ghost use Rattle.store.specs.Kept.{House, IsKept, house_code};
+    ghost use Rattle.store.specs.Kept.{House, IsKeptSeen, house_code};
 
     ghost Value = { House S };
 
@@ -74,7 +77,7 @@ impl<S: Alter> Model for SqlKeep<S> {
       failed = k.failed;
     } };
 
-    ghost invariant = { λ k. IsKept S.Store (record {
+    ghost invariant = { λ k. IsKeptSeen S.Store k.seen (record {
       conn = k.conn;
       editions = k.rules.editions;
       reserves = k.rules.reserves;
@@ -184,13 +187,13 @@ impl<S: Alter> Keep for SqlKeep<S> {
         report!(self, item_at(&mut self.conn, &self.rules, item))
     }
 
-    #[tactic(auto, using(store_items::proofs::Small::no_item), unfolding(store_rows::specs::Tables::tables_in))]
+    #[tactic(auto, using(crate::proofs::Known::terms_some, crate::proofs::Known::terms_none))]
     fn terms(&mut self, item: u64) -> Result<Option<Terms>, KeepFault> {
-        self.serves()?;
-        let Ok(item) = u32::try_from(item) else {
-            return Ok(None);
-        };
-        report!(self, terms_at(&mut self.conn, &self.rules, item))
+        let found = self.auction(item)?;
+        match found {
+            Some(auction) => Ok(Some(auction.terms)),
+            None => Ok(None),
+        }
     }
 
     #[tactic(auto, using(crate::proofs::Sound::sound_number, store_rows::proofs::Sound::items_fit, crate::proofs::Absent::no_lot), unfolding(store_rows::specs::Tables::tables_in))]
@@ -224,7 +227,16 @@ impl<S: Alter> Keep for SqlKeep<S> {
         let Ok(item) = u32::try_from(item) else {
             return Ok(None);
         };
-        report!(self, auction_at(&mut self.conn, &self.rules, item))
+        if let Some(auction) = seen_at(&self.seen, item) {
+            return Ok(Some(auction));
+        }
+        match auction_at(&mut self.conn, &self.rules, item) {
+            Ok(found) => {
+                self.seen = found;
+                Ok(self.seen)
+            }
+            Err(fault) => Err(reported_fault(&mut self.conn, &mut self.failed, fault)),
+        }
     }
 
     #[tactic(auto, using(crate::proofs::Absent::no_best_of, crate::proofs::Absent::no_best_at))]

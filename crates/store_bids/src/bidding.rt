@@ -12,6 +12,7 @@ ghost use Rattle.house_rows.specs.declared.change.Change.TheVariants as change;
 ghost use Rattle.house_rows.specs.declared.fault.KeepFault.TheVariants.{Damaged};
 ghost use Rattle.store_rows.specs.House.{IsBegun, IsHouse, KeepsCommitted, ServesBy, AddsBid};
 ghost use Rattle.store_items.specs.Items.{OfItem, StartsAt};
+ghost use Rattle.store_items.specs.Seen.{IsSeen};
 ghost use Rattle.store_rows.specs.Rows.{reserves_in};
 ghost use Rattle.store_rows.specs.Tables.{Changes, IsNumbered, Rests, tables_in};
 ghost use Rattle.store_items.specs.ConsistentRows.{HasStandingItem, RowFitsAt};
@@ -20,20 +21,22 @@ ghost use Rattle.store_rows.specs.Commits.{Commits};
 ghost use Rattle.store_bids.specs.Judged.{BeginsThere, BidFitsThere};
 
 use crate::look_ups::has_bid;
-use house_rows::KeepFault;
+use house_rows::{Auction, KeepFault};
 use proxy::{Bid, Standing};
 use sqlite::{Alter, Connection, Transaction, params};
-use store_items::{auction_there, set_standing};
+use store_items::{auction_seen, set_standing};
 use store_rows::{Rules, commit, is_still_open, run, set_clock, stored_moment};
 
 // Whether a standing begins where the item's bids do; Damaged where it doesn't.
 fn check_standing<S: Alter>(
     conn: &mut Connection<S>,
     rules: &Rules,
+    seen: &Option<Auction>,
     item: u32,
     standing: &Standing,
 ) -> Result<(), KeepFault>
-    requires { ServesBy rules.now.reserves (state S.Store conn.old) }
+    requires serves { ServesBy rules.now.reserves (state S.Store conn.old) }
+    requires seen { IsSeen rules.now.editions seen.now (state S.Store conn.old) }
     ensures finds { Finds S.Store conn.old conn.new result
         (λ db _. BeginsThere rules.now.editions item (opening_of standing.now) db)
         (BidFitsThere rules.now.editions item standing.now) }
@@ -41,7 +44,7 @@ fn check_standing<S: Alter>(
     ensures is_consistent { OnOk result (is_standing (bands_in rules.now.editions item) standing.now
         ≡ true) }
 {
-    let terms = auction_there(conn, rules, item)?.terms;
+    let terms = auction_seen(conn, rules, seen, item)?.terms;
     let bands = rules.editions.bands_for(u64::from(item));
     let reserve = rules.reserves.amount(u64::from(terms.item));
     let begun = Standing::of_row(
@@ -148,12 +151,13 @@ fn placing_fault<S: Alter>(
 }
 
 /// Places a bid on an item, which then has the given standing. The moment is in seconds since
-/// 1970-01-01T00:00:00Z, the band tables are those of the house. Damaged where the bid's number is
-/// taken, where there is no such item, where its row or the standing doesn't fit, or where the
-/// moment has more than 32 bits.
+/// 1970-01-01T00:00:00Z, the band tables are those of the house. What was seen of the item last is
+/// not looked up again. Damaged where the bid's number is taken, where there is no such item, where
+/// its row or the standing doesn't fit, or where the moment has more than 32 bits.
 pub fn bid<S: Alter>(
     conn: &mut Connection<S>,
     rules: &Rules,
+    seen: &Option<Auction>,
     moment: u64,
     item: u32,
     placed: Bid,
@@ -165,6 +169,7 @@ pub fn bid<S: Alter>(
         → rules.now.editions ≡ band_tables (tables_in (state S.Store conn.old).now.trees) }
     requires reserves { HasCleanDisk (state S.Store conn.old)
         → rules.now.reserves ≡ reserves_in (state S.Store conn.old).now.trees }
+    requires seen { IsSeen rules.now.editions seen.now (state S.Store conn.old) }
     ensures commit { Commits (change.Bid moment item placed standing.now) (state S.Store conn.old)
         (state S.Store conn.new) result }
     ensures there { HasCleanDisk (state S.Store conn.new)
@@ -187,7 +192,7 @@ pub fn bid<S: Alter>(
         → ¬ (IsErrOf result Damaged) }
 {
     let moment = stored_moment(moment)?;
-    check_standing(conn, rules, item, standing)?;
+    check_standing(conn, rules, seen, item, standing)?;
     let number = placed.no;
     match commit_bid(conn, moment, item, placed, standing) {
         Ok(()) => Ok(()),

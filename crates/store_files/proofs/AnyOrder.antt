@@ -1,144 +1,54 @@
 -- A house whose trees lie in any order is found by their names.
-use Rattle.std.proofs.Common.{◌≡◌, ◌<◌, ◌≤◌, ◌+◌, ◌∙◌, ℕ, zero, suc, pos, negsuc, true, cond, List, [], ◌∷◌, ◌++◌, map, filter, length, not, refl, sym, ap, ap₂, subst, arith, inl, inr, true≢false, is_eq, lt-ltb}
+use Rattle.std.proofs.Common.{◌≡◌, ◌≤◌, ◌+◌, ◌∙◌, ℕ, zero, suc, pos, negsuc, cond, List, [], ◌∷◌, map, filter, length, refl, sym, ap, ap₂, subst, arith, inl, inr}
 use Rattle.std.specs.Prelude.{ℤ}
 use Rattle.std.specs.Fmt.{digits}
-use Rattle.std.specs.List.{list_any, range_with_len}
-use Rattle.std.proofs.lemmas.Bool.{and_parts, cases_Bool, cases_eq, cases_lt}
-use Rattle.std.proofs.lemmas.Cmp.{tied_itself}
+use Rattle.std.specs.List.{range_with_len}
+use Rattle.std.proofs.lemmas.Bool.{cases_eq, cases_lt}
 use Rattle.std.proofs.lemmas.List.{get_or-map}
 use Rattle.std.proofs.lemmas.List.FromFn.{get_or-range_with_len, length-range_with_len}
-use Rattle.std.proofs.lemmas.Map.Text.{is_eq-slice_cmp}
-use Rattle.std.proofs.lemmas.Slice.Eq.{bytes_eq-Decides}
 use mathlib.Core.Path.{fun_ext}
-use Rattle.sqlite_value.specs.declared.value.Value.{Value}
 use Rattle.sqlite_value.specs.declared.value.Value.TheVariants.{Null, Int, Real, Text, Blob}
-use Rattle.sqlite_value.specs.Order.{Row, bytes, column, value_cmp}
-use Rattle.sqlite_value.proofs.OrderLemmas.{value_cmp-Text, value_cmp-apart, value_cmp_total}
+use Rattle.sqlite_value.specs.Order.{Row}
 use Rattle.sqlite.specs.Effect.{Database}
 use Rattle.sqlite_trees.specs.Objects.{catalog_tree}
-use Rattle.sqlite_trees.specs.Sound as sound
-use Rattle.sqlite_trees.specs.Sound.{Head, are_in_order, head_at, is_word, may_follow}
-use Rattle.sqlite_trees.specs.Tree.{Trees, rowid}
+use Rattle.sqlite_trees.specs.Tree.{Trees}
 use Rattle.sqlite_trees.specs.View.{IsShaped}
 use Rattle.sqlite_trees.specs.declared.store.Shape.TheVariants.{Table}
 use Rattle.sqlite_catalog.proofs.LayoutLemmas.{zipped_left}
-use Rattle.sqlite_catalog.proofs.SoundLemmas.{list_parts, names_agree}
-use Rattle.sqlite_catalog.proofs.StepLemmas.{same_itself}
-use Rattle.sqlite_catalog.specs.Listing.{AreListed, IsIndexRow, IsTableRow, automatic, is_index_row, is_table_row}
-use Rattle.sqlite_rules.proofs.ListLemmas.{has_filtered, has_left, has_right, some_from}
+use Rattle.sqlite_catalog.proofs.SoundLemmas.{list_parts}
+use Rattle.sqlite_catalog.specs.Listing.{AreListed, IsIndexRow, automatic, is_index_row}
+use Rattle.sqlite_rules.proofs.ListLemmas.{has_filtered}
 use Rattle.sqlite_rules.specs.Lists.{Has}
 use Rattle.sqlite_schema.specs.declared.schema.Index.{Index}
 use Rattle.sqlite_schema.specs.declared.schema.Schema.{Schema}
 use Rattle.sqlite_schema.specs.declared.schema.Table.{Table as SqlTable}
-use Rattle.order_laws.proofs.MovedLemmas.{from_out, low_number, moved_id, moved_there}
+use Rattle.store_house.proofs.ArrangedLemmas.{found_by_name, table_by_name}
 use Rattle.store_house.specs.Named.{IsArranged, IsReordered, house_names, house_trees}
-use Rattle.store_house.specs.Places.{tree_named, tree_or, trees_named}
+use Rattle.store_house.specs.Places.{tree_named, trees_named}
 use Rattle.store_rows.specs.House.{IsHouse}
 use Rattle.store_rows.specs.Schema.{band_table, bid_by_member, bid_table, category_table, edition_table, feedback_by_receiver, feedback_table, house_schema, house_table, item_by_category, item_by_end, item_by_leader, item_by_seller, item_table, later_band_table, member_table, question_by_asker, question_table, reserve_table, watch_table}
 use Rattle.tree_order.specs.Laws.{trees_at}
 use Rattle.tree_order.specs.NumberLaws.{number_back, number_past, other_way}
 use Rattle.tree_order.specs.Numbers.{AreInverse, number}
 use Rattle.tree_order.specs.Renumbered.{renumbered_trees}
-use Rattle.tree_order.specs.RowLaws.{column_kept}
 use Rattle.tree_order.specs.Rows.{in_order, is_table, renumbered_row, renumbered_rows, shifted}
 use Rattle.store_files.proofs.Orders.{stays_low}
 
--- ---- a name comes once
-
-same_text : (name : List ℕ) → sound.same_name (bytes (Text name)) (bytes (Text name)) ≡ true
-same_text name = sym (names_agree name name) ∙ same_itself name
-
-none_named : (earlier : List Head) (e : Head) (name : List ℕ) → Has earlier e → e.1 ≡ Text name → list_any (λ x. sound.same_name (bytes x.1) (bytes (Text name))) earlier ≡ true
-none_named earlier e name has is = some_from (λ x. sound.same_name (bytes x.1) (bytes (Text name))) earlier e has (rw is (same_text name))
-
--- a row that comes after some has none of their names
-follows_none : (earlier : List Head) (rows : List Row) → are_in_order earlier (map (head_at 1) rows) ≡ true → (e : Head) → Has earlier e
-    → (r : Row) → Has rows r → (name : List ℕ) → e.1 ≡ Text name → column r 2 ≡ Text name → ⊥
-unfolding may_follow
-follows_none earlier [] up e has r none name named is = none
-follows_none earlier (x ∷ rows) up e has r (inl same) name named is =
-    let at : column x 2 ≡ Text name = ap (λ (row : Row). column row 2) (sym same) ∙ is in
-    let fresh : not (list_any (λ (y : Head). sound.same_name (bytes y.1) (bytes (column x 2))) earlier) ≡ true = (and_parts _ _ (and_parts _ _ up).0).0 in
-    let here : not (list_any (λ (y : Head). sound.same_name (bytes y.1) (bytes (Text name))) earlier) ≡ true =
-    subst (λ v. not (list_any (λ (y : Head). sound.same_name (bytes y.1) (bytes v)) earlier) ≡ true) at fresh in
-    true≢false (sym here ∙ ap not (none_named earlier e name has named))
-follows_none earlier (x ∷ rows) up e has r (inr more) name named is =
-    follows_none (earlier ++ head_at 1 x ∷ []) rows (and_parts _ _ up).1 e (has_left earlier (head_at 1 x ∷ []) e has) r more name named is
-
--- so two rows with one name are one row
-one_named : (earlier : List Head) (rows : List Row) → are_in_order earlier (map (head_at 1) rows) ≡ true → (r s : Row) → Has rows r → Has rows s
-    → (name : List ℕ) → column r 2 ≡ Text name → column s 2 ≡ Text name → r ≡ s
-one_named earlier [] up r s none other name a b = absurd none
-one_named earlier (x ∷ rows) up r s (inl p) (inl q) name a b = p ∙ sym q
-one_named earlier (x ∷ rows) up r s (inl p) (inr q) name a b =
-    absurd (follows_none (earlier ++ head_at 1 x ∷ []) rows (and_parts _ _ up).1 (head_at 1 x) (has_right earlier (head_at 1 x ∷ []) (head_at 1 x) (inl refl)) s q name (ap (λ (row : Row). column row 2) (sym p) ∙ a) b)
-one_named earlier (x ∷ rows) up r s (inr p) (inl q) name a b =
-    absurd (follows_none (earlier ++ head_at 1 x ∷ []) rows (and_parts _ _ up).1 (head_at 1 x) (has_right earlier (head_at 1 x ∷ []) (head_at 1 x) (inl refl)) r p name (ap (λ (row : Row). column row 2) (sym q) ∙ b) a)
-one_named earlier (x ∷ rows) up r s (inr p) (inr q) name a b = one_named (earlier ++ head_at 1 x ∷ []) rows (and_parts _ _ up).1 r s p q name a b
-
--- ---- the tree of a name
-
--- a value that is a word is its text
-text_is : (v : Value) (word : List ℕ) → is_word word v ≡ true → v ≡ Text word
-text_is Null word h = absurd (true≢false (sym h ∙ ap is_eq (value_cmp-apart Null (Text word) (λ e. omega arith))))
-text_is (Int n) word h = absurd (true≢false (sym h ∙ ap is_eq (value_cmp-apart (Int n) (Text word) (λ e. omega arith))))
-text_is (Real x) word h = absurd (true≢false (sym h ∙ ap is_eq (value_cmp-apart (Real x) (Text word) (λ e. omega arith))))
-text_is (Text t) word h = ap Text ((bytes_eq-Decides t word).0 (sym (is_eq-slice_cmp t word) ∙ ap is_eq (sym (value_cmp-Text t word)) ∙ h))
-text_is (Blob b) word h = absurd (true≢false (sym h ∙ ap is_eq (value_cmp-apart (Blob b) (Text word) (λ e. omega arith))))
-
-is_text : (v : Value) (word : List ℕ) → v ≡ Text word → is_word word v ≡ true
-is_text v word is = ap (λ x. is_eq (value_cmp x (Text word))) is ∙ ap is_eq (tied_itself value_cmp_total (Text word))
-
--- of rows whose name is that of a tree, the first has it
-named_is : (name : List ℕ) (n other : ℕ) (rows : List Row) → n < 65536
-    → ((r : Row) → Has rows r → column r 2 ≡ Text name → rowid r ≡ Int (pos (suc n)))
-    → (r : Row) → Has rows r → column r 2 ≡ Text name → tree_named name other rows ≡ n
-named_is name n other [] low are r none is = absurd none
-named_is name n other (x ∷ rows) low are r has is = elim (cases_Bool (is_word name (column x 2))) [
-  | inl yes_it ↦
-      let id : column x 0 ≡ Int (pos (suc n)) = are x (inl refl) (text_is (column x 2) name yes_it) in
-      ap (λ b. cond b (tree_or other (column x 0)) (tree_named name other rows)) yes_it
-      ∙ ap (tree_or other) id ∙ ap (λ b. cond b n other) (lt-ltb n 65536 low)
-  | inr no_it ↦
-      ap (λ b. cond b (tree_or other (column x 0)) (tree_named name other rows)) no_it
-      ∙ elim has [
-        | inl same ↦ absurd (true≢false (sym (is_text (column x 2) name (ap (λ (row : Row). column row 2) (sym same) ∙ is)) ∙ no_it))
-        | inr more ↦ named_is name n other rows low (λ y h. are y (inr h)) r more is
-      ]
-]
+-- ---- the trees of a house
 
 module _ (inner outer : List ℕ) (h : AreInverse inner outer) (rows : List Row) (table : IsShaped Table rows) where
   abbrev out : List Row
   out = renumbered_rows outer rows
 
-  -- so the tree of an object is found by its name
-  found_by_name : are_in_order [] (map (head_at 1) out) ≡ true → (s : Row) → Has out s → (tree : ℕ) → tree < 65536 → rowid s ≡ Int (pos (tree + 1))
-      → (name : List ℕ) → column s 2 ≡ Text name → (other : ℕ) → tree_named name other rows ≡ number inner tree
-  found_by_name once s has tree low id name named other =
-      let r = renumbered_row inner s in
-      let is_named : column r 2 ≡ Text name = column_kept inner s 1 ∙ named in
-      named_is name (number inner tree) other rows (low_number inner outer h tree low)
-      (λ x there same.
-      let from = from_out inner outer h rows table x there in
-      let its : column from.0 2 ≡ Text name = sym (column_kept inner from.0 1) ∙ ap (λ (row : Row). column row 2) (sym from.2) ∙ same in
-      let one : from.0 ≡ s = one_named [] out once from.0 s from.1 has name its named in
-      ap rowid (from.2 ∙ ap (renumbered_row inner) one) ∙ moved_id inner s tree id)
-      r (moved_there inner outer h rows table s has tree id name named) is_named
+  -- a table or an index of a schema that the list in order has is found by its name
+  at_table : (schema : Schema) → AreListed out schema → (t : SqlTable) → Has schema.tables t → (other : ℕ) → number inner t.tree ≡ tree_named t.name other rows
+  at_table schema are t has other = sym (table_by_name inner outer h rows table schema are t has other)
 
-  -- a table or an index of a schema that the list in order has
-  table_by_name : (schema : Schema) → AreListed out schema → (t : SqlTable) → Has schema.tables t → (other : ℕ) → number inner t.tree ≡ tree_named t.name other rows
-  table_by_name schema are t has other =
-      let found = zipped_left IsTableRow (filter is_table_row out) schema.tables t are.tables has in
-      let d = found.2.described in
-      sym (found_by_name (list_parts out are.loads).1 found.0 (has_filtered is_table_row out found.0 found.1).0 t.tree d.low d.id t.name d.name_is other)
-
-  index_by_name : (schema : Schema) → AreListed out schema → (i : Index) → Has schema.indexes i → (other : ℕ) → number inner i.tree ≡ tree_named i.name other rows
-  index_by_name schema are i has other =
+  at_index : (schema : Schema) → AreListed out schema → (i : Index) → Has schema.indexes i → (other : ℕ) → number inner i.tree ≡ tree_named i.name other rows
+  at_index schema are i has other =
       let found = zipped_left (IsIndexRow schema.tables) (filter is_index_row out) schema.indexes i are.indexes has in
       let d = found.2.described in
-      sym (found_by_name (list_parts out are.loads).1 found.0 (has_filtered is_index_row out found.0 found.1).0 i.tree d.low d.id i.name d.name_is other)
-
--- ---- the trees of a house
+      sym (found_by_name inner outer h rows table (list_parts out are.loads).1 found.0 (has_filtered is_index_row out found.0 found.1).0 i.tree d.low d.id i.name d.name_is other)
 
 next : {x y : ℕ} {xs ys : List ℕ} → x ≡ y → xs ≡ ys → x ∷ xs ≡ y ∷ ys
 next e more = ap₂ (λ z zs. z ∷ zs) e more
@@ -152,8 +62,8 @@ pub names_find : (inner outer : List ℕ) → AreInverse inner outer → (rows :
     → (below : Trees) → below catalog_tree ≡ rows → house_places inner ≡ house_trees below
 unfolding house_names digits
 names_find inner outer h rows shape are below same =
-    let table = table_by_name inner outer h rows shape house_schema are in
-    let index = index_by_name inner outer h rows shape house_schema are in
+    let table = at_table inner outer h rows shape house_schema are in
+    let index = at_index inner outer h rows shape house_schema are in
     let found : house_places inner ≡ trees_named house_names 0 rows =
     (next (table house_table (inl refl) 0)
     (next (table band_table (inr (inl refl)) 1)

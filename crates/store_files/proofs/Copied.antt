@@ -10,8 +10,9 @@ use Rattle.sqlite_wal.specs.Reads.{AreClean, OnlyReads}
 use Rattle.sqlite_wal.specs.Recovery.{Image}
 use Rattle.tree_order.specs.declared.renumbered.Renumbered.{Renumbered}
 use Rattle.store_house.specs.Named.{tables_held}
+use Rattle.store.specs.InOrder.{over_order}
 use Rattle.store.specs.Kept.{House, IsHonest, content}
-use Rattle.store_files.specs.InOrder.{HasTablesHeld, over_order}
+use Rattle.store_files.specs.InOrder.{HasTablesHeld}
 
 same_image : (log db log' db' : List ℕ) → log ≡ log' → db ≡ db'
     → ◌≡◌ {A = Image} (record { log = log; db = db }) (record { log = log'; db = db' })

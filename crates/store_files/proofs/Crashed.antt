@@ -5,18 +5,20 @@ use Rattle.file_order.proofs.RecoveredLemmas.{are_databases, list_shaped}
 use Rattle.sqlite_disk.specs.declared.Disk.{Ghosts}
 use Rattle.sqlite_pool.specs.Pool as pool
 use Rattle.sqlite_wal.specs.Files.{outcomes}
+use Rattle.sqlite_wal.specs.Reads.{AreClean}
 use Rattle.sqlite_wal.specs.Recovery.{Image}
 use Rattle.sqlite_wal.proofs.LogLemmas.{SeenMayStay}
 use Rattle.sqlite_trees.specs.Props.{Trees-set}
 use Rattle.sqlite_trees.specs.Tree.{Trees}
 use Rattle.sqlite_trees.specs.View.{IsClean}
-use Rattle.sqlite_trees.proofs.Doubt.{clean_of}
+use Rattle.sqlite_trees.proofs.Doubt.{clean_of, no_doubt}
 use Rattle.sqlite_store.specs.FileStore.{files, recovers, state, view}
 use Rattle.sqlite_store.specs.Laws.{settled_at, stays_at}
 use Rattle.sqlite_store.specs.declared.store.FileStore.{FileStore}
-use Rattle.sqlite.proofs.Theorems.{next_run}
+use Rattle.sqlite.proofs.Theorems.{next_run, opens_again}
 use Rattle.sqlite.specs.Effect.{Database}
 use Rattle.sqlite.specs.Held.{AreDatabases}
+use Rattle.sqlite.specs.Files.{HoldsDatabase}
 use Rattle.sqlite.specs.Start.{FindsIn}
 use Rattle.sqlite.specs.State.{State}
 use Rattle.tree_order.specs.Shown.{shown_trees}
@@ -27,13 +29,27 @@ use Rattle.store_rows.specs.Tables.{IsAtRest, tables_in}
 use Rattle.store_house.proofs.ArrangedLemmas.{found_tables}
 use Rattle.store_house.specs.Named.{tables_held}
 use Rattle.store.specs.Kept.{House, MayLeave, content}
-use Rattle.store_files.specs.InOrder.{IsCrashed, order_state, over_order}
+use Rattle.store.specs.Closing.{MayHold}
+use Rattle.store.specs.InOrder.{order_state, over_order}
+use Rattle.store_files.specs.InOrder.{IsCrashed}
 
 -- of a disk that was honest, what a crash leaves of the two files is what it leaves of the store
 may_leave_of : {D : Type 0} {g : Ghosts D} (it : FileStore D g) → IsClean (view it) → (left : Image) → outcomes g (files it).0 (files it).1 left
     → (state it).may_leave left
 unfolding pool.state pool.files
 may_leave_of it clean left may = (clean_of _ clean, may)
+
+-- and it was honest where its files are clean
+pub clean_if_files : {D : Type 0} {g : Ghosts D} (it : FileStore D g) → AreClean g (files it).0 (files it).1 → IsClean (view it)
+unfolding pool.state pool.files
+clean_if_files it clean = no_doubt _ clean
+
+-- of a store in order at rest a crash leaves what is shown
+pub settled_shown : {D : Type 0} {g : Ghosts D} → SeenMayStay g → (k : House (Renumbered (FileStore D g))) (db : Trees) → (order_state k.conn).may_leave db
+    → IsAtRest (order_state k.conn) → db ≡ (order_state k.conn).now.trees
+settled_shown stays k db may rests =
+    may.2 ∙ ap (shown_trees k.conn.store.numbers) (settled_at k.conn.store.inner stays may.0 rests.is_open may.1)
+    ∙ ap (λ (d : Database). d.trees) (sym rests.settled)
 
 module _ {D : Type 0} {g : Ghosts D} (before : House (Renumbered (FileStore D g))) (left : Image) (crashed : IsCrashed g before left) where
   abbrev pub it : FileStore D g
@@ -62,6 +78,12 @@ module _ {D : Type 0} {g : Ghosts D} (before : House (Renumbered (FileStore D g)
         shown = refl;
       })
       (shown_house below may).sound.lists.listed)
+
+  -- what is left holds one of them
+  pub holds_left : MayHold before left
+  holds_left = ∥∥₁_map (opens_again it crashed.numbered inner_databases left (may_leave_of it crashed.honest left crashed.left_so))
+      (λ holds. let r : (db : Trees) × HoldsDatabase left db × MayLeave over_order before (tables_held db) =
+      (holds.0, holds.2, (shown holds.0, (holds.0, holds.1, refl), found_by_names holds.0 holds.1)) in r)
 
   module _ (opened : State) (found : FindsIn left opened) where
     pub recovered : ∥ recovers it opened.committed.trees ∥₁

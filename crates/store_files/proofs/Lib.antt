@@ -1,8 +1,9 @@
 pub mod AnyOrder
-pub mod Closed
 pub mod Copied
 pub mod Crashed
-pub mod Ended
 pub mod Made
 pub mod Opened
 pub mod Orders
+pub mod Reopened
+pub mod TablesSet
+pub mod Upgraded

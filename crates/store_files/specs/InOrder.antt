@@ -1,53 +1,67 @@
 -- A keep over two files whose trees are shown in the order of a house: what an opening of such
 -- files takes, and what a crash leaves of them. Start here.
-use Rattle.std.specs.Prelude.{◌≡◌, ◌⊎◌, IsTrue, []}
+use Rattle.std.specs.Prelude.{◌≡◌, ◌⊎◌, Bool, IsTrue, [], false, true}
 use Rattle.sqlite_disk.specs.declared.Disk as disk
 use Rattle.sqlite_disk.specs.declared.Files.{Files}
 use Rattle.sqlite_wal.specs.Files.{outcomes}
 use Rattle.sqlite_wal.specs.Recovery.{Image}
 use Rattle.sqlite_trees.specs.Tree.{Trees}
-use Rattle.sqlite_trees.specs.declared.store.Store.{Ghosts}
 use Rattle.sqlite_store.specs.FileStore.{files, recovers, view}
 use Rattle.sqlite_store.specs.declared.store.FileStore.{FileStore}
-use Rattle.sqlite.specs.Effect.{Database}
-use Rattle.sqlite.specs.Files.{HoldsDatabase, LeavesFiles, over_files}
-use Rattle.sqlite.specs.Held.{Held, state}
-use Rattle.sqlite.specs.State.{State}
+use Rattle.sqlite.specs.Effect.{Database, IsDatabase}
+use Rattle.sqlite.specs.Files.{AreFound, HoldsDatabase, LeavesFiles, image_of}
 use Rattle.sqlite.specs.declared.file.Leftover.{Leftover}
 use Rattle.sqlite.specs.declared.file.Leftover.TheVariants as left
-use Rattle.house_rows.specs.Tables.{tables_of}
+use Rattle.house_rows.specs.Tables.{Tables, tables_of}
 use Rattle.house_rows.specs.declared.settings.Settings.{Settings}
 use Rattle.tree_order.specs.declared.renumbered.Renumbered.{Renumbered}
+use Rattle.store_rows.specs.Schema.{no_schema}
 use Rattle.store_rows.specs.Tables.{IsAtRest}
-use Rattle.store_house.specs.Named.{HoldsHouse, IsArranged, IsReordered, tables_held}
-use Rattle.store_house.specs.Opening.{IsSoundHouse, NewHouse}
-use Rattle.store_house.specs.Over.{over_numbers}
+use Rattle.store_house.specs.Named.{HoldsHouse, HoldsSound, HoldsSoundFirst, IsArranged, IsReordered, UpgradesHeld, first_tables_held, tables_held}
+use Rattle.store_making.specs.Made.{IsMadeHouse}
 use Rattle.store.specs.Kept.{House, IsHonest, LeavesHouses, MayLeave, content}
-use Rattle.store.specs.Opening.{IsFound, LeavesFilesMade}
-
--- what the store of a keep in order is to its callers
-abbrev pub over_order : {D : Type 0} {g : disk.Ghosts D} → Ghosts (Renumbered (FileStore D g))
-over_order = over_numbers over_files
-
-abbrev pub order_state : {D : Type 0} {g : disk.Ghosts D} → Held (Renumbered (FileStore D g))
-    → State
-order_state = state over_order
+use Rattle.store.specs.InOrder.{order_state, over_order}
 
 -- ---- what two files hold
 
--- a database holds a house in any order that an opening takes
-abbrev pub HoldsSound : Trees → Type 0
-HoldsSound below = (db : Database) × IsSoundHouse db × IsArranged below db.trees
-
--- and so do two files
+-- a house in any order that an opening takes
 abbrev pub HoldsSoundHouse : Image → Type 0
 HoldsSoundHouse image = (below : Trees) × HoldsDatabase image below × HoldsSound below
+
+-- or one of version 1 that an upgrade takes
+abbrev pub HoldsSoundFirstHouse : Image → Type 0
+HoldsSoundFirstHouse image = (below : Trees) × HoldsDatabase image below × HoldsSoundFirst below
+
+-- no database
+abbrev pub HoldsNoDatabase : Image → Type 0
+HoldsNoDatabase image = (db : Trees) → ¬ (HoldsDatabase image db)
+
+-- these tables of a house, by their names
+pub record HoldsTables (image : Image) (t : Tables) : Type 0 where
+  pub db : Trees
+  pub holds : HoldsDatabase image db
+  pub tables : t ≡ tables_held db
+
+-- no table of SQL
+abbrev pub HoldsNoTable : Image → Type 0
+HoldsNoTable image = (db : Database) → IsDatabase db → HoldsDatabase image db.trees
+    → db.schema ≡ no_schema
 
 -- a keep has the tables that the names find in what two files hold
 abbrev pub HasTablesHeld : {D : Type 0} {g : disk.Ghosts D} → Image
     → House (Renumbered (FileStore D g)) → Type 0
 HasTablesHeld image keep = IsHonest over_order keep → (db : Trees) → HoldsDatabase image db
     → content over_order keep ≡ tables_held db
+
+-- the tables of what files held, after an upgrade that found a house of version 1 or not
+abbrev pub tables_after : Bool → Trees → Tables
+tables_after true db = first_tables_held db
+tables_after false db = tables_held db
+
+-- the database that an opening of files finds, which is the one that they hold
+pub record IsFound {D : Type 0} (g : disk.Ghosts D) (files : Files D) (db : Trees) : Type 0 where
+  pub found : AreFound g files db
+  pub holds : (other : Trees) → HoldsDatabase (image_of g files) other → db ≡ other
 
 -- ---- what is left of files after a call that failed
 
@@ -57,30 +71,49 @@ pub record HasTrees (held found : Trees) : Type 0 where
   pub order : IsReordered held found
   pub tables : HoldsHouse held → tables_held found ≡ tables_held held
 
+-- A crash finds what files held, in its order or in another one.
+abbrev pub FindsHeld : {D : Type 0} → disk.Ghosts D → Files D → Trees → Type 0
+FindsHeld g files found = (held : Trees) × IsFound g files held × HasTrees held found
+
 -- The files hold what they held; or a crash finds it in a store over them, in its order or in
 -- another one.
 abbrev pub LeavesFilesInOrder : {D : Type 0} {g : disk.Ghosts D} → Files D → Leftover D g → Type 0
 LeavesFilesInOrder {D} {g} files rest = LeavesFiles files rest
     ⊎ ((store : FileStore D g) × (rest ≡ left.Store store)
-    × ((found : Trees) → recovers store found
-    → (held : Trees) × IsFound g files held × HasTrees held found))
+    × ((found : Trees) → recovers store found → FindsHeld g files found))
 
--- These are the trees of a new house, in its order or in another one, and the names find its
--- tables.
+-- These are the trees of a new house, in the order in which it was made or in another one, and the
+-- names find its tables.
 pub record HasNewHouse (settings : Settings) (found : Trees) : Type 0 where
-  pub house : Trees
-  pub new : NewHouse settings house
-  pub order : IsReordered house found
+  pub made : Database
+  pub is_made : IsMadeHouse settings made
+  pub order : IsReordered made.trees found
   pub tables : tables_held found ≡ tables_of settings []
 
 -- What is left of files that a call would have made a house in: they hold what they held, or a
--- crash finds that or the new house in a store over them; or it finds the new house, in its order
--- or in another one.
+-- crash finds that or the new house in a store over them.
 abbrev pub LeavesFilesNew : {D : Type 0} {g : disk.Ghosts D} → Settings → Files D → Leftover D g
     → Type 0
-LeavesFilesNew {D} {g} settings files rest = LeavesFilesMade settings files rest
+LeavesFilesNew {D} {g} settings files rest = LeavesFiles files rest
     ⊎ ((store : FileStore D g) × (rest ≡ left.Store store)
-    × ((found : Trees) → recovers store found → HasNewHouse settings found))
+    × ((found : Trees) → recovers store found
+    → IsFound g files found ⊎ HasNewHouse settings found))
+
+-- These are the trees of a house of version 1 that was made one of version 2, in its order or in
+-- another one, and the names find its tables.
+pub record HasUpgraded (held found : Trees) : Type 0 where
+  pub house : Database
+  pub upgrades : UpgradesHeld held house
+  pub order : IsReordered house.trees found
+  pub tables : tables_held found ≡ first_tables_held held
+
+-- What is left of files whose house a call would have upgraded: they hold what they held, or a
+-- crash finds it, or the house upgraded, in a store over them.
+abbrev pub LeavesFilesUpgraded : {D : Type 0} {g : disk.Ghosts D} → Files D → Leftover D g → Type 0
+LeavesFilesUpgraded {D} {g} files rest = LeavesFiles files rest
+    ⊎ ((store : FileStore D g) × (rest ≡ left.Store store)
+    × ((found : Trees) → recovers store found
+    → FindsHeld g files found ⊎ ((held : Trees) × IsFound g files held × HasUpgraded held found)))
 
 -- ---- from one run to the next
 

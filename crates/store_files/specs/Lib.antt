@@ -1,2 +1,2 @@
-pub mod Closing
 pub mod InOrder
+pub mod Opened

@@ -5,17 +5,40 @@ ghost use Rattle.sqlite_wal.specs.Reads.{AreClean, OnlyReads};
 ghost use Rattle.store.specs.Kept.{is_failed};
 ghost use Rattle.store_files.specs.InOrder.{HasTablesHeld};
 
+use crate::copied_files::copy_files;
 use crate::openings::open_files;
 use house_rows::KeepFault;
 use sqlite::{FileStore, Options};
-use sqlite_disk::{Disk, Files};
+use sqlite_disk::{Disk, Files, Memory};
 use std::alloc::Global;
 use std::io;
-use store::{InMemory, SqlKeep};
+use store::SqlKeep;
 use tree_order::Renumbered;
 
 // The salts of a log are drawn from it. That of a copy is read by nobody else.
 const SEED: u64 = 1;
+
+/// A disk in memory. It fails only where memory runs out.
+pub trait InMemory: Sized + Disk + Drop {
+    /// A copy of a log and of a database file, which are only read.
+    fn copy_files<D: Disk>(alloc: Global, files: &mut Files<D>) -> io::Result<Files<Self>>
+        requires log { IsTrue (D.Disk.is_usable files.old.log) }
+        requires db { IsTrue (D.Disk.is_usable files.old.db) }
+        ensures log { IfOk result (λ copy. IsTrue (D.Disk.is_clean files.new.log)
+            → Self.Disk.seen copy.log ≡ D.Disk.seen files.old.log) }
+        ensures db { IfOk result (λ copy. IsTrue (D.Disk.is_clean files.new.db)
+            → Self.Disk.seen copy.db ≡ D.Disk.seen files.old.db) }
+        ensures usable { IfOk result (λ copy. IsTrue (Self.Disk.is_usable copy.log)
+            × IsTrue (Self.Disk.is_usable copy.db)) }
+        ensures reads_log { OnlyReads D.Disk files.old.log files.new.log }
+        ensures reads_db { OnlyReads D.Disk files.old.db files.new.db };
+}
+
+impl InMemory for Memory {
+    fn copy_files<D: Disk>(alloc: Global, files: &mut Files<D>) -> io::Result<Files<Memory>> {
+        copy_files(alloc, files)
+    }
+}
 
 // Why files can't be copied.
 fn copy_fault(error: &io::Error) -> KeepFault {
@@ -26,7 +49,7 @@ fn copy_fault(error: &io::Error) -> KeepFault {
     }
 }
 
-// Why a copy can't be opened. Its disk fails for want of memory alone.
+// Why a copy can't be opened. Its disk fails only where memory runs out.
 fn open_fault(fault: KeepFault) -> KeepFault {
     match fault {
         KeepFault::Damaged => KeepFault::Damaged,

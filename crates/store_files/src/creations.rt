@@ -6,16 +6,17 @@ ghost use Rattle.sqlite.specs.Files.{IsCleanLeft, image_of};
 ghost use Rattle.sqlite_wal.specs.Reads.{AreClean};
 ghost use Rattle.store_house.specs.Opening.{IsSoundHouse};
 ghost use Rattle.store.specs.Kept.{IsHonest, MayLeave, content, is_failed};
-ghost use Rattle.store.specs.Opening.{HoldsNoTable};
-ghost use Rattle.store_files.specs.InOrder.{LeavesFilesNew, order_state, over_order};
+ghost use Rattle.store.specs.InOrder.{order_state, over_order};
+ghost use Rattle.store_files.specs.InOrder.{HoldsNoTable, LeavesFilesNew};
 
-use crate::openings::{connect, open_by_names};
+use crate::openings::connect;
 use house_rows::{KeepFault, Settings};
 use sqlite::{FileStore, Leftover, Options};
 use sqlite_disk::{Disk, Files};
 use std::alloc::Global;
 use store::SqlKeep;
-use store_house::make_house;
+use store_making::make_house;
+use store_open::open_house;
 use tree_order::Renumbered;
 
 /// Makes the keep of a house to which nothing has happened yet in a log and a database file that
@@ -44,7 +45,7 @@ pub fn create_files<D: Disk + Drop>(
 {
     let mut conn = connect(alloc, files, options)?;
     match make_house(&mut conn, settings) {
-        Ok(()) => match open_by_names(alloc, conn) {
+        Ok(()) => match open_house(alloc, conn) {
             Ok(house) => Ok(SqlKeep::of_house(alloc, house)),
             Err((fault, store)) => Err((fault, Leftover::Store(store.into_inner()))),
         },

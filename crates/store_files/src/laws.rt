@@ -14,7 +14,9 @@ ghost use Rattle.store_house.specs.Named.{IsArranged, IsReordered, tables_held};
 ghost use Rattle.store_rows.specs.House.{IsHouse};
 ghost use Rattle.store_rows.specs.Tables.{IsAtRest};
 ghost use Rattle.store.specs.Kept.{MayLeave, content};
-ghost use Rattle.store_files.specs.InOrder.{IsCrashed, order_state, over_order};
+ghost use Rattle.store.specs.Closing.{MayHold};
+ghost use Rattle.store.specs.InOrder.{order_state, over_order};
+ghost use Rattle.store_files.specs.InOrder.{IsCrashed};
 
 use sqlite_disk::Disk;
 
@@ -36,4 +38,10 @@ pub fn openings_find_what_crashes_leave<D: Disk, E: Disk>()
         → IsCrashed D.Disk before left → FindsIn left (file_state opened)
         → IsAtRest (order_state before.conn)
         → tables_held (file_state opened).committed.trees ≡ content over_order before }
+{}
+
+/// Whatever a crash leaves of the files of a keep holds a database in which the names find tables
+/// that the crash may leave of the keep.
+pub fn crashes_leave_databases<D: Disk>()
+    ensures { (before : _) (left : Image) → IsCrashed D.Disk before left → MayHold before left }
 {}

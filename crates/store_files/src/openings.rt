@@ -1,35 +1,31 @@
-//! A house is opened, in whatever order its trees lie: of a connection, and of two files.
+//! A house in two files is opened, in whatever order its trees lie.
 ghost use Rattle.std.specs.Prelude.{◌≡◌, ◌⊎◌, false, IfErr, IfOk};
 ghost use Rattle.house_rows.specs.Tables.{Tables};
 ghost use Rattle.house_rows.specs.declared.fault.KeepFault.TheVariants.{Damaged};
 ghost use Rattle.sqlite.specs.Files.{Finds, HoldsDatabase, IsCleanLeft, IsOpened, LeavesFiles};
 ghost use Rattle.sqlite.specs.Files.{faults_left, faults_of, file_state, image_of};
-ghost use Rattle.sqlite.specs.Held.{state};
 ghost use Rattle.sqlite.specs.State.{HasCleanDisk};
 ghost use Rattle.sqlite.specs.declared.error.Error.TheVariants.{SqliteFailure};
 ghost use Rattle.sqlite.specs.declared.error.ErrorCode.TheVariants.{DatabaseCorrupt, NotADatabase};
 ghost use Rattle.sqlite_disk.specs.Disk.{MoreFaults};
 ghost use Rattle.sqlite_trees.specs.Tree.{Trees};
-ghost use Rattle.sqlite_trees.specs.View.{IsClean};
 ghost use Rattle.sqlite_wal.specs.Reads.{AreClean};
-ghost use Rattle.store_house.specs.Named.{FollowsInOrder, IsArranged, tables_held};
+ghost use Rattle.store_house.specs.Named.{IsArranged, tables_held};
 ghost use Rattle.store_house.specs.Opening.{AreNumbered, AreSet};
-ghost use Rattle.store_house.specs.Over.{over_numbers};
-ghost use Rattle.store_open.specs.Opened.{IsOpenedHouse};
 ghost use Rattle.store_rows.specs.Fitting.{HouseRowFits};
 ghost use Rattle.store_rows.specs.House.{IsHouse};
 ghost use Rattle.store_rows.specs.Tables.{house_row_in};
 ghost use Rattle.store.specs.Kept.{IsHonest, MayLeave, content, is_failed};
-ghost use Rattle.store_files.specs.InOrder.{FindsLeft, HoldsSound, HoldsSoundHouse, IsCrashed};
-ghost use Rattle.store_files.specs.InOrder.{LeavesFilesInOrder, order_state, over_order};
+ghost use Rattle.store.specs.InOrder.{order_state, over_order};
+ghost use Rattle.store_files.specs.InOrder.{FindsLeft, HoldsNoDatabase, HoldsSoundHouse};
+ghost use Rattle.store_files.specs.InOrder.{IsCrashed, LeavesFilesInOrder};
 
 use house_rows::KeepFault;
-use sqlite::{Alter, Connection, Error, ErrorCode, FileStore, Leftover, Options};
+use sqlite::{Connection, Error, ErrorCode, FileStore, Leftover, Options};
 use sqlite_disk::{Disk, Files};
 use std::alloc::Global;
 use store::SqlKeep;
-use store_house::house_by_names;
-use store_open::{Opened, opened_house};
+use store_open::open_house;
 use tree_order::Renumbered;
 
 // Which fault it is that files can't be opened.
@@ -56,7 +52,7 @@ pub(crate) fn connect<D: Disk + Drop>(
     ensures found { IfOk result (λ c. HasCleanDisk (file_state c) → Finds files c) }
     ensures left { IfErr result (λ e. IsCleanLeft e.1 → LeavesFiles files e.1) }
     ensures damaged { IfErr result (λ e. e.0 ≡ Damaged → IsCleanLeft e.1
-        → (¬ (HoldsSoundHouse (image_of D.Disk files)))
+        → HoldsNoDatabase (image_of D.Disk files)
         ⊎ MoreFaults (faults_of D.Disk files) (faults_left e.1)) }
 {
     if !files.may_be_used() {
@@ -66,30 +62,6 @@ pub(crate) fn connect<D: Disk + Drop>(
         Ok(conn) => Ok(conn),
         Err((error, left)) => Err((file_fault(&error), left)),
     }
-}
-
-/// Opens the house that a connection holds, in whatever order its trees lie. What the connection
-/// has not committed is undone.
-///
-/// `Damaged` where the names find other tables than those of a house of version 2, or where
-/// `opened_house` is. After an error the store is given back, which shows in some order what it
-/// held: nothing was written.
-pub fn open_by_names<S: Alter + Drop>(
-    alloc: Global,
-    conn: Connection<S>,
-) -> Result<Opened<Renumbered<S>>, (KeepFault, Renumbered<S>)>
-    ensures opened { IfOk result (IsOpenedHouse (over_numbers S.Store)) }
-    ensures arranged { IfOk result (λ o. HasCleanDisk (state (over_numbers S.Store) o.conn)
-        → IsArranged (state S.Store conn).committed.trees
-        (state (over_numbers S.Store) o.conn).now.trees) }
-    ensures follows { IfOk result (λ o. FollowsInOrder S.Store conn o.conn.store) }
-    ensures left { IfErr result (λ e. FollowsInOrder S.Store conn e.1) }
-    ensures damaged { IfErr result (λ e. e.0 ≡ Damaged → IsClean (S.Store.view e.1.inner)
-        → ¬ (HoldsSound (state S.Store conn).committed.trees)) }
-{
-    let whole = house_by_names(alloc, conn)?;
-    let opened = opened_house(alloc, whole)?;
-    Ok(opened)
 }
 
 /// The keep of the house that a log and a database file hold, in whatever order its trees lie. It
@@ -127,7 +99,7 @@ pub fn open_files<D: Disk + Drop>(
         ⊎ MoreFaults (faults_of D.Disk files) (faults_left e.1)) }
 {
     let conn = connect(alloc, files, options)?;
-    match open_by_names(alloc, conn) {
+    match open_house(alloc, conn) {
         Ok(house) => Ok(SqlKeep::of_house(alloc, house)),
         Err((fault, store)) => Err((fault, Leftover::Store(store.into_inner()))),
     }

@@ -9,6 +9,7 @@ use Rattle.sqlite_value.specs.declared.value.Value.{Value}
 use Rattle.sqlite_value.specs.declared.value.Value.TheVariants.{Null, Int, Real, Text, Blob}
 use Rattle.sqlite_value.specs.Order.{Row, bytes, column, value_cmp}
 use Rattle.sqlite_value.proofs.OrderLemmas.{value_cmp-Text, value_cmp-apart, value_cmp_total}
+use Rattle.sqlite.specs.Effect.{Database}
 use Rattle.sqlite_trees.specs.Objects.{catalog_tree}
 use Rattle.sqlite_trees.specs.Sound as sound
 use Rattle.sqlite_trees.specs.Sound.{Head, are_in_order, head_at, is_word, may_follow}
@@ -24,9 +25,11 @@ use Rattle.sqlite_rules.specs.Lists.{Has}
 use Rattle.sqlite_schema.specs.declared.schema.Schema.{Schema}
 use Rattle.sqlite_schema.specs.declared.schema.Table.{Table as SqlTable}
 use Rattle.order_laws.proofs.MovedLemmas.{from_out, low_number, moved_id, moved_there}
-use Rattle.store_house.specs.Named.{IsReordered, house_names, tables_held}
+use Rattle.store_house.specs.Named.{IsReordered, first_tables_held, house_names, tables_held}
+use Rattle.store_house.specs.Opening.{first_tables_in}
 use Rattle.store_house.specs.Places.{by_names, tree_named, tree_or}
-use Rattle.store_rows.specs.Schema.{band_table, bid_table, category_table, edition_table, feedback_table, house_schema, house_table, item_table, later_band_table, member_table, question_table, reserve_table, watch_table}
+use Rattle.store_rows.specs.House.{IsHouse}
+use Rattle.store_rows.specs.Schema.{band_table, bid_table, category_table, edition_table, feedback_table, first_schema, house_schema, house_table, item_table, later_band_table, member_table, question_table, reserve_table, watch_table}
 use Rattle.store_rows.specs.Tables.{house_row_in, settings_in, tables_in}
 use Rattle.tree_order.specs.Numbers.{AreInverse, number}
 use Rattle.tree_order.specs.Renumbered.{renumbered_trees}
@@ -102,7 +105,7 @@ module _ (inner outer : List ℕ) (h : AreInverse inner outer) (rows : List Row)
   out = renumbered_rows outer rows
 
   -- so the tree of an object is found by its name
-  found_by_name : are_in_order [] (map (head_at 1) out) ≡ true → (s : Row) → Has out s → (tree : ℕ) → tree < 65536 → rowid s ≡ Int (pos (tree + 1))
+  pub found_by_name : are_in_order [] (map (head_at 1) out) ≡ true → (s : Row) → Has out s → (tree : ℕ) → tree < 65536 → rowid s ≡ Int (pos (tree + 1))
       → (name : List ℕ) → column s 2 ≡ Text name → (other : ℕ) → tree_named name other rows ≡ number inner tree
   found_by_name once s has tree low id name named other =
       let r = renumbered_row inner s in
@@ -156,3 +159,33 @@ found_tables below db table order are =
     (ap below (sym (at reserve_table (inr (inr (inr (inr (inr (inr (inr (inr (inr (inl refl)))))))))) 23)))
     (ap below (sym (at edition_table (inr (inr (inr (inr (inr (inr (inr (inr (inr (inr (inl refl))))))))))) 24)))
     (ap below (sym (at later_band_table (inr (inr (inr (inr (inr (inr (inr (inr (inr (inr (inr (inl refl)))))))))))) 25)))
+
+-- and so has a house of version 1
+same_first_tables : (x y : Trees) → x 0 ≡ y 0 → x 1 ≡ y 1 → x 2 ≡ y 2 → x 4 ≡ y 4 → x 6 ≡ y 6 → x 8 ≡ y 8 → x 10 ≡ y 10 → x 12 ≡ y 12 → x 14 ≡ y 14
+    → first_tables_in x ≡ first_tables_in y
+unfolding tables_in settings_in house_row_in of_rows
+same_first_tables x y a b c d e f g h j = λ i. first_tables_in (of_rows (a i) (b i) (c i) (d i) (e i) (f i) (g i) (h i) (j i) [] [] [])
+
+pub found_first_tables : (below db : Trees) → IsShaped Table (below catalog_tree) → (order : IsReordered below db) → AreListed (db catalog_tree) first_schema
+    → first_tables_in db ≡ first_tables_held below
+unfolding house_names
+found_first_tables below db table order are =
+    let rows = below catalog_tree in
+    let shown = order.shown in
+    let listed : AreListed (renumbered_rows order.outer rows) first_schema = subst (λ (d : Trees). AreListed (d catalog_tree) first_schema) shown are in
+    let at = table_by_name order.inner order.outer order.inverse rows table first_schema listed in
+    ap first_tables_in shown ∙ same_first_tables (renumbered_trees order.inner order.outer below) (by_names house_names below)
+    (ap below (sym (at house_table (inl refl) 0)))
+    (ap below (sym (at band_table (inr (inl refl)) 1)))
+    (ap below (sym (at member_table (inr (inr (inl refl))) 2)))
+    (ap below (sym (at category_table (inr (inr (inr (inl refl)))) 4)))
+    (ap below (sym (at item_table (inr (inr (inr (inr (inl refl))))) 6)))
+    (ap below (sym (at bid_table (inr (inr (inr (inr (inr (inl refl)))))) 8)))
+    (ap below (sym (at watch_table (inr (inr (inr (inr (inr (inr (inl refl))))))) 10)))
+    (ap below (sym (at question_table (inr (inr (inr (inr (inr (inr (inr (inl refl)))))))) 12)))
+    (ap below (sym (at feedback_table (inr (inr (inr (inr (inr (inr (inr (inr (inl refl))))))))) 14)))
+
+-- in a house that is shown in some order are the tables that its names find
+pub found_in_order : (below : Trees) (db : Database) → IsShaped Table (below catalog_tree) → IsReordered below db.trees → IsHouse db → tables_in db.trees ≡ tables_held below
+found_in_order below db table order house =
+    found_tables below db.trees table order (subst (AreListed (db.trees catalog_tree)) house.schema house.sound.lists.listed)

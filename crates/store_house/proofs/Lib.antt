@@ -6,11 +6,9 @@ pub mod PeopleMeaning
 pub mod PeopleFinds
 pub mod PeopleSound
 pub mod Written
-pub mod NewHouse
+pub mod NoEdition
 pub mod NumberLemmas
 pub mod NumbersMeaning
 pub mod NumbersLemmas
 pub mod NamedLemmas
 pub mod OpenLemmas
-pub mod PutMeaning
-pub mod PutLemmas

@@ -162,16 +162,17 @@ none_arranged below none =
     none arranged.order.outer (subst (λ l. AreInverse l arranged.order.outer) arranged.named arranged.order.inverse) in
     ((λ held. never held.0.trees held.2), (λ held. never held.0.trees held.2))
 
+-- trees that are arranged by the same names are the same
+pub same_arranged : (below one other : Trees) → IsArranged below one → IsArranged below other → one ≡ other
+same_arranged below one other a b =
+    let inner : b.order.inner ≡ a.order.inner = b.named ∙ sym a.named in
+    let moved : AreInverse a.order.inner b.order.outer = subst (λ l. AreInverse l b.order.outer) inner b.order.inverse in
+    let outer : b.order.outer ≡ a.order.outer = one_inverse a.order.inner b.order.outer a.order.outer moved a.order.inverse in
+    a.order.shown ∙ sym (b.order.shown ∙ ap (λ l. renumbered_trees l b.order.outer below) inner ∙ ap (λ l. renumbered_trees a.order.inner l below) outer)
+
 -- the schema of a house that is held is that of the database in its order
 pub held_schema : (below : Trees) (again : Database) → IsArranged below again.trees → IsDatabase again → (db : Database) → IsDatabase db → IsArranged below db.trees → again.schema ≡ db.schema
-held_schema below again here sound db held there = one_schema again db sound (same_arrangement here there) held
-  where
-    same_arrangement : IsArranged below again.trees → IsArranged below db.trees → again.trees ≡ db.trees
-    same_arrangement a b =
-        let inner : b.order.inner ≡ a.order.inner = b.named ∙ sym a.named in
-        let moved : AreInverse a.order.inner b.order.outer = subst (λ l. AreInverse l b.order.outer) inner b.order.inverse in
-        let outer : b.order.outer ≡ a.order.outer = one_inverse a.order.inner b.order.outer a.order.outer moved a.order.inverse in
-        a.order.shown ∙ sym (b.order.shown ∙ ap (λ l. renumbered_trees l b.order.outer below) inner ∙ ap (λ l. renumbered_trees a.order.inner l below) outer)
+held_schema below again here sound db held there = one_schema again db sound (same_arranged below again.trees db.trees here there) held
 
 module _ {S : Type 0} (g : Ghosts S) (given : Renumbered S) (db : Database) (trees : db.trees ≡ ((over_numbers g).view given).trees) (sound : IsDatabase db)
     (listed : IsListed ((g.view given.inner).trees catalog_tree) (g.view given.inner).shape (g.view given.inner).reals) (ordered : IsOrdered (g.view given.inner).shape (g.view given.inner).trees) where

@@ -87,16 +87,6 @@ pub record Leads {S : Type 0} (g : Ghosts S) (conn last : Held S) : Type 0 where
 pub leads_self : {S : Type 0} (g : Ghosts S) (conn : Held S) → Leads g conn conn
 leads_self g conn = record { clean = omega arith; shield = λ h. h; committed = λ clean is_open. refl; crash = λ clean db left. left }
 
--- a connection that was made anew shows what is committed
-pub leads_made : {S : Type 0} (g : Ghosts S) (conn again : Held S) → Follows g conn again.store
-    → (HasCleanDisk (state g again) → (state g again).now ≡ (state g again).committed) → Leads g conn again
-leads_made g conn again follows rests = record {
-  clean = follows.clean;
-  shield = follows.shield;
-  committed = λ clean is_open. sym (ap (λ (d : Database). d.trees) (rests clean)) ∙ follows.shown clean is_open;
-  crash = follows.crash;
-}
-
 -- a call that only reads leads on
 pub leads_on : {S : Type 0} (g : Ghosts S) (conn old new : Held S) → Leads g conn old → Survives (state g old) (state g new) (λ _. ⊥)
     → (HasCleanDisk (state g new) → KeepsCommitted (state g old) (state g new)) → Leads g conn new
@@ -124,19 +114,4 @@ gives_back g conn last store leads undone quiet = record {
   crash = λ clean db left.
       let early : HasCleanDisk (state g last) = omega (arith, quiet.clean, clean) in
       leads.crash early db (quiet.outcomes db left);
-}
-
--- and the store that an opening of it refused
-pub refuses : {S : Type 0} (g : Ghosts S) (conn : Held S) (store left : S) → Follows g conn store → (IsClean (g.view store) → IsTrue (g.view store).is_open)
-    → IsQuiet g.view g.faults g.recovers g.is_shielded store left
-    → (IsClean (g.view left) → IsTrue (g.view left).is_open → (g.view left).trees ≡ (g.view store).trees) → Follows g conn left
-refuses g conn store left follows works quiet same = record {
-  clean = omega (arith, follows.clean, quiet.clean);
-  shield = λ h. quiet.shield (follows.shield h);
-  shown = λ clean is_open.
-      let early : IsClean (g.view store) = omega (arith, quiet.clean, clean) in
-      same clean is_open ∙ follows.shown early (works early);
-  crash = λ clean db may.
-      let early : IsClean (g.view store) = omega (arith, quiet.clean, clean) in
-      follows.crash early db (quiet.outcomes db may);
 }

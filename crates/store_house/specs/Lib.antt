@@ -5,4 +5,3 @@ pub mod Opening
 pub mod Over
 pub mod Places
 pub mod Plain
-pub mod Putting

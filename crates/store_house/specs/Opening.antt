@@ -114,10 +114,6 @@ pub record IsSoundHouse (db : Database) : Type 0 where
   pub house : IsHouse db
   pub readable : IsReadable db.trees
 
--- what a crash finds is a house to which nothing has happened yet
-abbrev pub NewHouse : Settings → Trees → Type 0
-NewHouse settings trees = (db : Database) × IsHouse db × (tables_in db.trees ≡ tables_of settings []) × (trees ≡ db.trees)
-
 -- ---- a house of version 1, and what an upgrade makes of it
 
 -- the row of the house is there and fits in a file of version 1, and its bands are a table
@@ -157,13 +153,6 @@ abbrev pub Upgraded : Trees → Trees → Type 0
 Upgraded old trees = (db : Database) × Upgrades old db × (trees ≡ db.trees)
 
 -- ---- what a call that failed has left
-
--- A making has left the connection so: it shows what was committed before, and a crash finds what it could find before, or the
--- new house.
-pub record IsBackOrNew {S : Type 0} (g : Ghosts S) (conn last : Held S) (settings : Settings) : Type 0 where
-  pub back : HasCleanDisk (state g last) → IsTrue (state g last).is_open
-      → conn.in_transaction ≡ false → IsBack (state g conn) (state g last)
-  pub survives : Survives (state g conn) (state g last) (NewHouse settings)
 
 -- The store of a connection to which nothing was written: that a wrong answer of the disk was taken as true is not forgotten, a
 -- shield is kept, what is shown is what was committed then, and a crash finds what it could find before.

@@ -4,6 +4,8 @@ ghost use Rattle.house_rows.specs.declared.fault.KeepFault.TheVariants.{Damaged}
 ghost use Rattle.sqlite.specs.Effect.{Database};
 ghost use Rattle.sqlite.specs.Held.{state};
 ghost use Rattle.sqlite.specs.State.{HasCleanDisk};
+ghost use Rattle.sqlite.specs.declared.error.Error.TheVariants.{SqliteFailure};
+ghost use Rattle.sqlite.specs.declared.error.ErrorCode.TheVariants.{NotADatabase};
 ghost use Rattle.sqlite_trees.specs.Objects.{catalog_tree};
 ghost use Rattle.sqlite_trees.specs.Tree.{Trees};
 ghost use Rattle.sqlite_trees.specs.View.{IsClean, IsShaped};
@@ -16,12 +18,12 @@ ghost use Rattle.store_rows.specs.Tables.{tables_in};
 ghost use Rattle.tree_order.specs.Numbers.{AreInverse};
 ghost use Rattle.store_house.specs.Over.{over_numbers};
 
-use crate::anew::{is_first_schema, is_made_by, refusal};
 use crate::places::trees_named;
+use crate::schemas::{is_first_schema, is_made_by};
 use house_rows::KeepFault;
-use sqlite::{Alter, Connection};
+use sqlite::{Alter, Connection, Error, ErrorCode};
 use std::alloc::Global;
-use store_rows::STEPS;
+use store_rows::{STEPS, fault_of};
 use tree_order::{Numbers, Renumbered};
 
 /// A house that is shown in its order has the tables that are found by their names.
@@ -83,6 +85,16 @@ fn house_numbers<S: Alter>(alloc: Global, store: &S) -> Result<Option<Numbers>, 
     match Numbers::new(alloc, trees) {
         Ok(found) => Ok(found),
         Err(_) => Err(KeepFault::Memory),
+    }
+}
+
+// Why a store is refused: it holds no database, memory ran out, or it failed.
+fn refusal(error: Error) -> KeepFault
+    ensures { result ≡ Damaged → error ≡ SqliteFailure NotADatabase }
+{
+    match error {
+        Error::SqliteFailure(ErrorCode::NotADatabase) => KeepFault::Damaged,
+        other => fault_of(other),
     }
 }
 

@@ -4,3 +4,4 @@ pub mod Rising
 pub mod ConsistentRows
 pub mod Standing
 pub mod LookUps
+pub mod Seen

@@ -132,7 +132,7 @@ pub fn all_items<S: Alter>(
 
 /// An item without its texts, with the standing of its bids; Damaged where there is none, or where
 /// its row isn't consistent with its band table.
-pub fn auction_there<S: Alter>(
+pub(crate) fn auction_there<S: Alter>(
     conn: &mut Connection<S>,
     rules: &Rules,
     item: u32,

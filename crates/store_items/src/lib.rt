@@ -14,11 +14,13 @@ mod own_reserves;
 mod pages;
 mod reads;
 mod sales;
+mod seen;
 mod terms;
 
 pub use item::{put_item, set_bought, set_closed, set_settled, set_standing};
-pub use item_reads::{all_items, auction_at, auction_there, item_at, item_with_lot, terms_at};
+pub use item_reads::{all_items, auction_at, item_at, item_with_lot, terms_at};
 pub use own_reserves::reserves_of;
 pub use pages::items_in;
 pub use sales::sales_to;
+pub use seen::{auction_seen, seen_at};
 pub use terms::{due_terms, terms_of_seller};

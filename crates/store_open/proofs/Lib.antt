@@ -1,4 +1,5 @@
 pub mod EditionLemmas
+pub mod InOrder
 pub mod ReadLemmas
 pub mod ReserveLemmas
 pub mod UpgradeLemmas

@@ -10,7 +10,7 @@ use Rattle.sqlite.specs.Held.{Held, state}
 use Rattle.sqlite.specs.State.{HasCleanDisk, State, Survives}
 use Rattle.sqlite.proofs.StateLemmas.{survives_then, survives_weaker}
 use Rattle.sqlite_schema.specs.declared.schema.Schema.{Schema}
-use Rattle.store_house.proofs.NewHouse.{none_set_yet}
+use Rattle.store_house.proofs.NoEdition.{none_set_yet}
 use Rattle.store_house.proofs.OpenLemmas.{one_schema}
 use Rattle.steps.specs.Table.{IsBandTable}
 use Rattle.house_rows.proofs.Put.{by_test}
@@ -198,31 +198,6 @@ module _ {S : Type 0} (g : Ghosts S) (settled : Settled g) (stays : Stays g) whe
       ];
     }
 
--- ---- two connections, one after the other
-
-module _ {S : Type 0} (g : Ghosts S) (conn again : Held S) (store : S) (one : Follows g conn again.store) (same : HasCleanDisk (state g again) → (state g again).committed.trees ≡ (state g conn).committed.trees) where
-  pub follows_twice : Follows g again store → Follows g conn store
-  follows_twice two = record {
-    clean = omega (arith, one.clean, two.clean);
-    shield = λ h. two.shield (one.shield h);
-    shown = λ clean is_open. two.shown clean is_open ∙ same (omega (arith, two.clean, clean));
-    crash = λ clean db left. one.crash (omega (arith, two.clean, clean)) db (two.crash clean db left);
-  }
-
-  pub grows_after : FollowsOrGrows g again store → FollowsOrGrows g conn store
-  grows_after two = record {
-    clean = omega (arith, one.clean, two.clean);
-    shield = λ h. two.shield (one.shield h);
-    shown = λ clean is_open. two.shown clean is_open ∙ same (omega (arith, two.clean, clean));
-    crash = λ clean db left.
-        let early : HasCleanDisk (state g again) = omega (arith, two.clean, clean) in
-        elim (two.crash clean db left) [ inl may ↦ inl (one.crash early db may) | inr made ↦ inr (subst (λ (t : Trees). Upgraded t db) (same early) made) ];
-  }
-
--- what follows has grown no more than it may
-pub follows_or_grows : {S : Type 0} (g : Ghosts S) (conn : Held S) (store : S) → Follows g conn store → FollowsOrGrows g conn store
-follows_or_grows g conn store follows = record { clean = follows.clean; shield = follows.shield; shown = follows.shown; crash = λ clean db left. inl (follows.crash clean db left) }
-
 -- ---- what is sound of one version
 
 two_schemas : first_schema ≡ house_schema → ⊥
@@ -237,6 +212,3 @@ not_first db held house trees sound = two_schemas (sym (sym house.schema ∙ one
 
 pub sound_first_at : (db held : Database) → IsFirstHouse db → db.trees ≡ held.trees → IsSoundFirst held → IsSoundFirst db
 sound_first_at db held first trees sound = record { house = first; set_up = subst IsFirstSetUp (sym trees) sound.set_up; numbered = subst AreNumbered (sym trees) sound.numbered }
-
-pub sound_house_at : (db held : Database) → IsHouse db → db.trees ≡ held.trees → IsSoundHouse held → IsSoundHouse db
-sound_house_at db held house trees sound = record { house = house; readable = subst IsReadable (sym trees) sound.readable }

@@ -7,7 +7,9 @@ ghost use Rattle.house_rows.specs.Fits.{IsMoment};
 ghost use Rattle.house_rows.specs.declared.fault.KeepFault.TheVariants.{Damaged};
 ghost use Rattle.steps.specs.Table.{IsBandTable};
 ghost use Rattle.store_rows.specs.House.{IsHouse, Serves};
-ghost use Rattle.store_house.specs.Opening.{Follows, HasRead, HasSettings, IsReadable, IsSetUp, IsSoundHouse};
+ghost use Rattle.store_house.specs.Named.{FollowsInOrder, HoldsSound, IsArranged};
+ghost use Rattle.store_house.specs.Opening.{Follows, HasRead, HasSettings, IsReadable, IsSetUp};
+ghost use Rattle.store_house.specs.Over.{over_numbers};
 ghost use Rattle.store_rows.specs.Frames.{Finds};
 ghost use Rattle.store_open.specs.Opened.{IsOpenedHouse};
 
@@ -18,8 +20,9 @@ use house_rows::{Counts, Editions, KeepFault, Rate, Settings};
 use sqlite::{Alter, Connection};
 use std::alloc::Global;
 use steps::Bands;
-use store_house::{house_anew, read_counts};
+use store_house::{house_by_names, read_counts};
 use store_rows::{BandRow, HouseRow, Reserves, all_bands, house_row};
+use tree_order::Renumbered;
 
 // The rows of the band table as pairs.
 fn pairs(alloc: Global, rows: &[BandRow]) -> Result<Vec<(u64, u64)>, KeepFault>
@@ -138,23 +141,26 @@ pub fn opened_house<S: Alter + Drop>(
     }
 }
 
-/// Opens the house that a connection holds. What it has not committed is undone.
+/// Opens the house that a connection holds, in whatever order its trees lie. What the connection has
+/// not committed is undone.
 ///
-/// `Damaged` where it holds other tables than those of a house of version 2, or where `opened_house`
-/// is. After an error the store is given back as it was: nothing was written.
+/// `Damaged` where the names find other tables than those of a house of version 2, or where
+/// `opened_house` is. After an error the store is given back, which shows in some order what it
+/// held: nothing was written.
 pub fn open_house<S: Alter + Drop>(
     alloc: Global,
     conn: Connection<S>,
-) -> Result<Opened<S>, (KeepFault, S)>
-    ensures opened { IfOk result (IsOpenedHouse S.Store) }
-    ensures same { IfOk result (λ o. HasCleanDisk (state S.Store o.conn)
-        → (state S.Store o.conn).now.trees ≡ (state S.Store conn).committed.trees) }
-    ensures follows { IfOk result (λ o. Follows S.Store conn o.conn.store) }
-    ensures left { IfErr result (λ e. Follows S.Store conn e.1) }
-    ensures damaged { IfErr result (λ e. e.0 ≡ Damaged → IsClean (S.Store.view e.1)
-        → ¬ (IsSoundHouse (state S.Store conn).committed)) }
+) -> Result<Opened<Renumbered<S>>, (KeepFault, Renumbered<S>)>
+    ensures opened { IfOk result (IsOpenedHouse (over_numbers S.Store)) }
+    ensures arranged { IfOk result (λ o. HasCleanDisk (state (over_numbers S.Store) o.conn)
+        → IsArranged (state S.Store conn).committed.trees
+        (state (over_numbers S.Store) o.conn).now.trees) }
+    ensures follows { IfOk result (λ o. FollowsInOrder S.Store conn o.conn.store) }
+    ensures left { IfErr result (λ e. FollowsInOrder S.Store conn e.1) }
+    ensures damaged { IfErr result (λ e. e.0 ≡ Damaged → IsClean (S.Store.view e.1.inner)
+        → ¬ (HoldsSound (state S.Store conn).committed.trees)) }
 {
-    let whole = house_anew(alloc, conn)?;
+    let whole = house_by_names(alloc, conn)?;
     let opened = opened_house(alloc, whole)?;
     Ok(opened)
 }

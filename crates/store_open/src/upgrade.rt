@@ -10,21 +10,23 @@ ghost use Rattle.house_rows.specs.Fits.{IsMoment};
 ghost use Rattle.house_rows.specs.declared.fault.KeepFault.TheVariants.{Damaged, Store};
 ghost use Rattle.store_rows.specs.House.{IsFirstHouse, IsInside, Serves};
 ghost use Rattle.store_rows.specs.Frames.{Finds};
-ghost use Rattle.store_rows.specs.Tables.{tables_in};
 ghost use Rattle.store_open.specs.Opened.{IsOpenedHouse};
+ghost use Rattle.store_house.specs.Named.{FollowsInOrder, FollowsOrGrowsInOrder, HoldsSound};
+ghost use Rattle.store_house.specs.Named.{HoldsSoundFirst, IsArranged, UpgradesHeld};
 ghost use Rattle.store_house.specs.Opening.{AreNumbered, Follows, FollowsOrGrows, HasEditions};
 ghost use Rattle.store_house.specs.Opening.{HasReserves, HasSettings, HaveNumbers, IsFirstSetUp};
-ghost use Rattle.store_house.specs.Opening.{IsSoundFirst, IsSoundHouse, Upgraded, Upgrades};
-ghost use Rattle.store_house.specs.Opening.{first_tables_in, version_in};
+ghost use Rattle.store_house.specs.Opening.{IsSoundFirst, Upgraded, Upgrades, version_in};
+ghost use Rattle.store_house.specs.Over.{over_numbers};
 
 use crate::house::Opened;
-use crate::open::{open_house, read_house};
+use crate::open::{opened_house, read_house};
 use house_rows::{Counts, Editions, KeepFault};
 use sqlite::{Alter, Connection};
 use sqlite_trees::store::Store;
 use std::alloc::Global;
-use store_house::either_anew;
+use store_house::either_by_names;
 use store_rows::{Reserves, add_tables, begin, end, set_version, stored_version};
+use tree_order::Renumbered;
 
 // The version of a house that is upgraded.
 const FIRST_VERSION: u32 = 1;
@@ -162,39 +164,40 @@ fn upgrade_first<S: Alter + Drop>(
     }
 }
 
-/// Opens the house that a connection holds, and upgrades it if it is of version 1, which is
-/// reported. What the connection has not committed is undone. A house of version 2 is not changed.
+/// Opens the house that a connection holds, in whatever order its trees lie, and upgrades it if it is
+/// of version 1, which is reported. What the connection has not committed is undone. A house of
+/// version 2 is not changed.
 ///
-/// `Damaged` where it holds no house of version 1 or 2 that an opening would take. After an error the
-/// store is given back: as it was, or after `Store` it may hold the house upgraded.
+/// `Damaged` where the names find no house of version 1 or 2 that an opening would take. After an
+/// error the store is given back, which shows in some order what it held; after `Store` it may hold
+/// the house upgraded.
 pub fn upgrade_house<S: Alter + Drop>(
     alloc: Global,
     conn: Connection<S>,
-) -> Result<(Opened<S>, bool), (KeepFault, S)>
-    ensures opened { IfOk result (λ r. IsOpenedHouse S.Store r.0) }
-    ensures same { IfOk result (λ r. HasCleanDisk (state S.Store r.0.conn)
+) -> Result<(Opened<Renumbered<S>>, bool), (KeepFault, Renumbered<S>)>
+    ensures opened { IfOk result (λ r. IsOpenedHouse (over_numbers S.Store) r.0) }
+    ensures upgraded { IfOk result (λ r. HasCleanDisk (state (over_numbers S.Store) r.0.conn)
         → r.1 ≡ true
-        → tables_in (state S.Store r.0.conn).now.trees
-        ≡ first_tables_in (state S.Store conn).committed.trees) }
-    ensures upgraded { IfOk result (λ r. HasCleanDisk (state S.Store r.0.conn)
-        → r.1 ≡ true
-        → Upgrades (state S.Store conn).committed.trees (state S.Store r.0.conn).now) }
-    ensures kept { IfOk result (λ r. HasCleanDisk (state S.Store r.0.conn)
+        → UpgradesHeld (state S.Store conn).committed.trees
+        (state (over_numbers S.Store) r.0.conn).now) }
+    ensures kept { IfOk result (λ r. HasCleanDisk (state (over_numbers S.Store) r.0.conn)
         → r.1 ≡ false
-        → (state S.Store r.0.conn).now.trees ≡ (state S.Store conn).committed.trees) }
-    ensures follows { IfOk result (λ r. r.1 ≡ false → Follows S.Store conn r.0.conn.store) }
-    ensures clean { IfOk result (λ r. HasCleanDisk (state S.Store r.0.conn)
+        → IsArranged (state S.Store conn).committed.trees
+        (state (over_numbers S.Store) r.0.conn).now.trees) }
+    ensures follows { IfOk result (λ r. r.1 ≡ false
+        → FollowsInOrder S.Store conn r.0.conn.store) }
+    ensures clean { IfOk result (λ r. HasCleanDisk (state (over_numbers S.Store) r.0.conn)
         → HasCleanDisk (state S.Store conn)) }
-    ensures left { IfErr result (λ e. e.0 ≢ Store → Follows S.Store conn e.1) }
-    ensures grown { IfErr result (λ e. FollowsOrGrows S.Store conn e.1) }
-    ensures damaged { IfErr result (λ e. e.0 ≡ Damaged → IsClean (S.Store.view e.1)
-        → (¬ (IsSoundHouse (state S.Store conn).committed))
-        × (¬ (IsSoundFirst (state S.Store conn).committed))) }
+    ensures left { IfErr result (λ e. e.0 ≢ Store → FollowsInOrder S.Store conn e.1) }
+    ensures grown { IfErr result (λ e. FollowsOrGrowsInOrder S.Store conn e.1) }
+    ensures damaged { IfErr result (λ e. e.0 ≡ Damaged → IsClean (S.Store.view e.1.inner)
+        → (¬ (HoldsSound (state S.Store conn).committed.trees))
+        × (¬ (HoldsSoundFirst (state S.Store conn).committed.trees))) }
 {
-    let (conn, is_first) = either_anew(alloc, conn)?;
+    let (whole, is_first) = either_by_names(alloc, conn)?;
     if is_first {
-        Ok((upgrade_first(alloc, conn)?, true))
+        Ok((upgrade_first(alloc, whole)?, true))
     } else {
-        Ok((open_house(alloc, conn)?, false))
+        Ok((opened_house(alloc, whole)?, false))
     }
 }

@@ -22,7 +22,7 @@ use Rattle.store_rows.specs.Texts.{make_house, make_band, make_member, make_cate
 use Rattle.store_rows.specs.House.{AddsTables, IsFirstHouse, IsInside}
 use Rattle.store_rows.proofs.BegunLemmas.{is_inner, wrote_inside}
 use Rattle.store_rows.specs.Begun.{IsInner, StaysInside}
-use Rattle.store_rows.specs.Making.{making_at, made_by, IsMade, IsGrown, IsEmptyHouse}
+use Rattle.store_rows.specs.Making.{making_at, made_by, IsMade, IsGrown}
 use Rattle.store_rows.proofs.Making.{house_defined, band_defined, member_defined, category_defined, item_defined, bid_defined, watch_defined, question_defined, feedback_defined, item_by_category_defined, item_by_seller_defined, item_by_leader_defined, item_by_end_defined, bid_by_member_defined, question_by_asker_defined, feedback_by_receiver_defined, reserve_defined, edition_defined, later_band_defined}
 use Rattle.store_rows.proofs.Wrote.{went, same_value}
 
@@ -197,17 +197,6 @@ makes_step (suc (suc (suc (suc (suc (suc (suc (suc (suc (suc (suc (suc (suc (suc
 makes_step (suc (suc (suc (suc (suc (suc (suc (suc (suc (suc (suc (suc (suc (suc (suc (suc (suc zero))))))))))))))))) low old new count was h = table_made 17 old new make_edition (record edition_table { tree = 0 }) count edition_is.0 edition_is.1 edition_is.2 edition_defined refl refl was h
 makes_step (suc (suc (suc (suc (suc (suc (suc (suc (suc (suc (suc (suc (suc (suc (suc (suc (suc (suc zero)))))))))))))))))) low old new count was h = table_made 18 old new make_later_band (record later_band_table { tree = 0 }) count later_band_is.0 later_band_is.1 later_band_is.2 later_band_defined refl refl was h
 makes_step (suc (suc (suc (suc (suc (suc (suc (suc (suc (suc (suc (suc (suc (suc (suc (suc (suc (suc (suc n))))))))))))))))))) low old new count was h = absurd (omega (arith, low))
-
--- all of them make a house
-pub made_house : (db : Database) → IsMade 19 db → IsEmptyHouse db
-made_house db made = record {
-  house = record { schema = made.schema; shaped = each house_schema.tables made.empty; sound = made.sound (omega arith) };
-  empty = made.empty;
-}
-  where
-    each : (tables : List Table) → AllByRecursion (λ t. db.trees t.tree ≡ []) tables → AllByRecursion (λ t. IsShaped shape.Table (db.trees t.tree)) tables
-    each [] empty = tt
-    each (t ∷ tables) empty = (subst (IsShaped shape.Table) (sym empty.0) (tt, tt), each tables empty.1)
 
 -- none are made
 pub blank_made : (db : Database) → db.schema ≡ no_schema → IsMade 0 db

@@ -9,7 +9,6 @@ use Rattle.sqlite_catalog.specs.Change.{KeepsRows}
 use Rattle.sqlite_trees.specs.Tree.{Trees}
 use Rattle.store_rows.specs.Schema.{first_schema, house_schema, no_schema}
 use Rattle.store_rows.specs.Texts.{make_house, make_band, make_member, make_category, make_item, make_bid, make_watch, make_question, make_feedback, make_item_by_category, make_item_by_seller, make_item_by_leader, make_item_by_end, make_bid_by_member, make_question_by_asker, make_feedback_by_receiver, make_reserve, make_edition, make_later_band}
-use Rattle.store_rows.specs.House.{IsHouse}
 
 -- the texts, in order
 abbrev pub making : List (List ℕ)
@@ -50,8 +49,3 @@ pub record IsGrown (n : ℕ) (first : Trees) (db : Database) : Type 0 where
 -- the connection is open and its database lists no table, as far as the disk was honest
 abbrev pub IsBlank : State → Type 0
 IsBlank s = HasCleanDisk s → IsTrue s.is_open × (s.now.schema ≡ no_schema)
-
--- a house of which no table has a row
-pub record IsEmptyHouse (db : Database) : Type 0 where
-  pub house : IsHouse db
-  pub empty : AllByRecursion (λ t. db.trees t.tree ≡ []) house_schema.tables

@@ -5,7 +5,7 @@ ghost use Rattle.sqlite.specs.Held.{state};
 ghost use Rattle.house_rows.specs.declared.fault.KeepFault.TheVariants.{Damaged};
 ghost use Rattle.sqlite_trees.specs.Tree.{Trees};
 ghost use Rattle.store_rows.specs.House.{AddsTables, IsFirstHouse, IsInside};
-ghost use Rattle.store_rows.specs.Making.{IsBlank, IsEmptyHouse, IsGrown, IsMade, making_at};
+ghost use Rattle.store_rows.specs.Making.{IsBlank, IsGrown, IsMade, making_at};
 ghost use Rattle.store_rows.specs.Frames.{WritesOnce, WritesMany};
 
 use crate::begun::run_begun;
@@ -81,9 +81,9 @@ const LATER_BAND: &str =
     "CREATE TABLE later_band (edition INTEGER NOT NULL REFERENCES edition (edition), \
     at INTEGER NOT NULL, step INTEGER NOT NULL, PRIMARY KEY (edition, at)) STRICT";
 
-// The text of a step: the tables in the order of their references, their indexes, and then the tables
-// that version 2 adds.
-fn step_text(step: usize) -> &'static str
+/// The text of a step: the tables in the order of their references, their indexes, and then the tables
+/// that version 2 adds.
+pub fn step_text(step: usize) -> &'static str
     requires { step < STEPS }
     ensures { result.now ≡ making_at step }
 {
@@ -150,23 +150,6 @@ pub fn make_steps<S: Alter>(tx: &mut Transaction<'_, S>, steps: usize) -> Result
         make_step(tx, step)?;
     }
     Ok(())
-}
-
-/// Makes the tables and their indexes within a transaction, in a database that has none. After an
-/// error nothing is committed: the transaction is to be dropped.
-#[tactic(auto, using(crate::proofs::MakeLemmas::made_house))]
-pub fn make_tables<S: Alter>(tx: &mut Transaction<'_, S>) -> Result<(), KeepFault>
-    requires blank { IsBlank (state S.Store tx.old.conn.now) }
-    requires begun { HasCleanDisk (state S.Store tx.old.conn.now)
-        → IsTrue tx.old.conn.now.in_transaction }
-    ensures same_reference { tx.new.conn.ghost_name ≡ tx.old.conn.ghost_name }
-    ensures ok { HasCleanDisk (state S.Store tx.new.conn.now)
-        → OnOk result (IsEmptyHouse (state S.Store tx.new.conn.now).now) }
-    ensures sound { ¬ (IsErrOf result Damaged) }
-    ensures write { WritesMany (state S.Store tx.old.conn.now)
-        (state S.Store tx.new.conn.now) result }
-{
-    make_steps(tx, STEPS)
 }
 
 // Runs one step over the rows of a house of version 1, within a transaction that was begun.

@@ -11,6 +11,7 @@ ghost use Rattle.store_items.specs.Items.{OfItem};
 ghost use Rattle.store_rows.specs.Rows.{reserves_in};
 ghost use Rattle.store_rows.specs.Tables.{Changes, IsNumbered, Rests, tables_in};
 ghost use Rattle.store_items.specs.ConsistentRows.{HasStandingItem, RowFitsAt};
+ghost use Rattle.store_items.specs.Seen.{IsSeen};
 ghost use Rattle.store_selling.specs.Sales.{IsUnbid};
 ghost use Rattle.store_rows.specs.Frames.{Finds, WritesMany};
 ghost use Rattle.store_rows.specs.Commits.{Commits};
@@ -19,7 +20,7 @@ ghost use Rattle.store_selling.specs.LookUps.{HasUnbidItem, PurchaseFitsThere};
 use cents::Cents;
 use house_rows::{Auction, KeepFault};
 use sqlite::{Alter, Connection, Transaction};
-use store_items::{auction_there, set_bought};
+use store_items::{auction_seen, set_bought};
 use store_rows::{Rules, commit, set_clock, stored_moment};
 
 // Whether nobody has bid. Of an item that was bought the standing is that of no bids, too.
@@ -37,14 +38,16 @@ fn is_unbid(auction: &Auction) -> bool
 fn check_unbid<S: Alter>(
     conn: &mut Connection<S>,
     rules: &Rules,
+    seen: &Option<Auction>,
     item: u32,
 ) -> Result<(), KeepFault>
-    requires { ServesBy rules.now.reserves (state S.Store conn.old) }
+    requires serves { ServesBy rules.now.reserves (state S.Store conn.old) }
+    requires seen { IsSeen rules.now.editions seen.now (state S.Store conn.old) }
     ensures { Finds S.Store conn.old conn.new result
         (λ db _. HasUnbidItem rules.now.editions item db)
         (PurchaseFitsThere rules.now.editions item) }
 {
-    let auction = auction_there(conn, rules, item)?;
+    let auction = auction_seen(conn, rules, seen, item)?;
     if is_unbid(&auction) {
         Ok(())
     } else {
@@ -78,12 +81,13 @@ fn write_purchase<S: Alter>(
 }
 
 /// Sells an item at once for its buy-now price. The moment is in seconds since
-/// 1970-01-01T00:00:00Z, the band tables are those of the house. Damaged where there is no such
-/// item, where somebody has bid on it, where its row doesn't fit, or where the moment has more than
-/// 32 bits.
+/// 1970-01-01T00:00:00Z, the band tables are those of the house. What was seen of the item last is
+/// not looked up again. Damaged where there is no such item, where somebody has bid on it, where its
+/// row doesn't fit, or where the moment has more than 32 bits.
 pub fn buy<S: Alter>(
     conn: &mut Connection<S>,
     rules: &Rules,
+    seen: &Option<Auction>,
     moment: u64,
     item: u32,
     buyer: u32,
@@ -95,6 +99,7 @@ pub fn buy<S: Alter>(
         → rules.now.editions ≡ band_tables (tables_in (state S.Store conn.old).now.trees) }
     requires reserves { HasCleanDisk (state S.Store conn.old)
         → rules.now.reserves ≡ reserves_in (state S.Store conn.old).now.trees }
+    requires seen { IsSeen rules.now.editions seen.now (state S.Store conn.old) }
     ensures commit { Commits (Buy moment item buyer price) (state S.Store conn.old)
         (state S.Store conn.new) result }
     ensures there { HasCleanDisk (state S.Store conn.new)
@@ -108,7 +113,7 @@ pub fn buy<S: Alter>(
         → ¬ (IsErrOf result Damaged) }
 {
     let moment = stored_moment(moment)?;
-    check_unbid(conn, rules, item)?;
+    check_unbid(conn, rules, seen, item)?;
     let mut tx = conn.transaction();
     write_purchase(&mut tx, moment, item, buyer, price)?;
     commit(tx)

@@ -11,29 +11,32 @@ ghost use Rattle.store_items.specs.Items.{OfItem};
 ghost use Rattle.store_rows.specs.Rows.{reserves_in};
 ghost use Rattle.store_rows.specs.Tables.{Changes, IsNumbered, Rests, tables_in};
 ghost use Rattle.store_items.specs.ConsistentRows.{HasStandingItem, RowFitsAt};
+ghost use Rattle.store_items.specs.Seen.{IsSeen};
 ghost use Rattle.store_selling.specs.Sales.{StartFits};
 ghost use Rattle.store_rows.specs.Frames.{Finds, WritesMany};
 ghost use Rattle.store_rows.specs.Commits.{Commits};
 ghost use Rattle.store_items.specs.LookUps.{ItemFitsThere};
 ghost use Rattle.store_selling.specs.LookUps.{HasStartingItem};
 
-use house_rows::KeepFault;
+use house_rows::{Auction, KeepFault};
 use sqlite::{Alter, Connection, Transaction};
-use store_items::{auction_there, set_settled};
+use store_items::{auction_seen, set_settled};
 use store_rows::{Rules, commit, set_clock, stored_moment};
 
 // Whether the row of an item fits; Damaged where there is none.
 fn check_terms<S: Alter>(
     conn: &mut Connection<S>,
     rules: &Rules,
+    seen: &Option<Auction>,
     item: u32,
 ) -> Result<(), KeepFault>
-    requires { ServesBy rules.now.reserves (state S.Store conn.old) }
+    requires serves { ServesBy rules.now.reserves (state S.Store conn.old) }
+    requires seen { IsSeen rules.now.editions seen.now (state S.Store conn.old) }
     ensures { Finds S.Store conn.old conn.new result
         (λ db _. HasStartingItem rules.now.editions item db)
         (ItemFitsThere rules.now.editions item) }
 {
-    auction_there(conn, rules, item)?;
+    auction_seen(conn, rules, seen, item)?;
     Ok(())
 }
 
@@ -61,11 +64,13 @@ fn write_settlement<S: Alter>(
 }
 
 /// Settles the sale of an item. The moment is in seconds since 1970-01-01T00:00:00Z, the band
-/// tables are those of the house. Damaged where there is no such item, where its row doesn't fit,
-/// or where the moment has more than 32 bits.
+/// tables are those of the house. What was seen of the item last is not looked up again. Damaged
+/// where there is no such item, where its row doesn't fit, or where the moment has more than 32
+/// bits.
 pub fn settle<S: Alter>(
     conn: &mut Connection<S>,
     rules: &Rules,
+    seen: &Option<Auction>,
     moment: u64,
     item: u32,
 ) -> Result<(), KeepFault>
@@ -75,6 +80,7 @@ pub fn settle<S: Alter>(
         → rules.now.editions ≡ band_tables (tables_in (state S.Store conn.old).now.trees) }
     requires reserves { HasCleanDisk (state S.Store conn.old)
         → rules.now.reserves ≡ reserves_in (state S.Store conn.old).now.trees }
+    requires seen { IsSeen rules.now.editions seen.now (state S.Store conn.old) }
     ensures commit { Commits (Settle moment item) (state S.Store conn.old)
         (state S.Store conn.new) result }
     ensures there { HasCleanDisk (state S.Store conn.new)
@@ -86,7 +92,7 @@ pub fn settle<S: Alter>(
         → ¬ (IsErrOf result Damaged) }
 {
     let moment = stored_moment(moment)?;
-    check_terms(conn, rules, item)?;
+    check_terms(conn, rules, seen, item)?;
     let mut tx = conn.transaction();
     write_settlement(&mut tx, moment, item)?;
     commit(tx)

@@ -1,4 +1,5 @@
 //! Houses on two files.
+use crate::keeps::make_keep;
 use house_rows::KeepFault;
 use house_script::{ScriptFault, settings};
 use sqlite::{Alter, Connection, FileStore, Options};
@@ -6,6 +7,7 @@ use sqlite_disk::{Disk, Files};
 use std::alloc::Global;
 use stop_files::{Pair, Stopping};
 use store::SqlKeep;
+use tree_order::Renumbered;
 
 /// What opens a database. What works on a house there is over any store: the prover takes long over
 /// a keep whose store is named in full.
@@ -14,7 +16,7 @@ pub(crate) trait Opens<S: Alter> {
     fn connection(&self) -> Result<Connection<S>, KeepFault>;
 
     /// The keep of the house that is there.
-    fn keep(&self) -> Result<SqlKeep<S>, KeepFault>;
+    fn keep(&self) -> Result<SqlKeep<Renumbered<S>>, KeepFault>;
 }
 
 // What the salts of the logs are drawn from.
@@ -64,7 +66,7 @@ impl<'p> Opens<FileStore<Stopping<'p>>> for OnFiles<'p> {
         connect(self.alloc, self.pair.files(), self.room)
     }
 
-    fn keep(&self) -> Result<SqlKeep<FileStore<Stopping<'p>>>, KeepFault> {
+    fn keep(&self) -> Result<SqlKeep<Renumbered<FileStore<Stopping<'p>>>>, KeepFault> {
         open_files(self.alloc, self.pair.files(), self.room)
     }
 }
@@ -99,8 +101,8 @@ fn open_files<D: Disk + Drop>(
     alloc: Global,
     files: Files<D>,
     room: Room,
-) -> Result<SqlKeep<FileStore<D>>, KeepFault> {
-    match SqlKeep::open_files(alloc, files, options(room)) {
+) -> Result<SqlKeep<Renumbered<FileStore<D>>>, KeepFault> {
+    match store_files::open_files(alloc, files, options(room)) {
         Ok(keep) => Ok(keep),
         Err((fault, _)) => Err(fault),
     }
@@ -110,7 +112,7 @@ fn open_files<D: Disk + Drop>(
 pub(crate) fn create<S: Alter + Drop, O: Opens<S>>(
     alloc: Global,
     place: &O,
-) -> Result<SqlKeep<S>, KeepFault> {
+) -> Result<SqlKeep<Renumbered<S>>, KeepFault> {
     let settings = settings(alloc).map_err(|_| KeepFault::Memory)?;
-    SqlKeep::create(alloc, place.connection()?, settings)
+    make_keep(alloc, place.connection()?, &settings)
 }

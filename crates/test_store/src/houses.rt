@@ -3,13 +3,12 @@
 //! `house_script` says what a line may be. The section is played on houses in memory up to the
 //! comment `-- In SQLite.`, and after it on houses in SQLite in memory. A script of houses alone is
 //! played in one place.
-use crate::keeps::{Connects, Databases, InFile, InMemory, Lists};
+use crate::keeps::{Connects, Databases, InFile, InMemory, Lists, open_keep};
 use crate::part::Place;
 use house_script::{ScriptFault, ask, play};
 use sqlite::Alter;
 use std::alloc::Global;
 use std::fs;
-use store::SqlKeep;
 
 // What parts the section.
 const MARK: &str = "-- In SQLite.\n";
@@ -55,7 +54,7 @@ fn ask_there<S: Alter + Drop, C: Connects<S>>(
     place: &C,
     script: &str,
 ) -> Result<(), ScriptFault> {
-    let mut keep = SqlKeep::open(alloc, place.connection()?)?;
+    let mut keep = open_keep(alloc, place.connection()?)?;
     ask(rt, alloc, &mut keep, script)
 }
 

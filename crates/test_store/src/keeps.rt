@@ -1,4 +1,13 @@
 //! How houses are made, in memory and in databases, and where a database lies.
+ghost use Rattle.std.specs.Prelude.{◌≡◌, ◌≤◌, [], IfOk};
+ghost use Rattle.house_rows.specs.Tables.{tables_of};
+ghost use Rattle.sqlite.specs.Held.{state};
+ghost use Rattle.sqlite_trees.specs.View.{doubt};
+ghost use Rattle.store.specs.Kept.{IsHonest, content};
+ghost use Rattle.store_house.specs.Named.{IsArranged};
+ghost use Rattle.store_rows.specs.House.{IsHouse};
+ghost use Rattle.store_house.specs.Over.{over_numbers};
+
 use house_rows::{Keep, KeepFault, Settings};
 use house_script::{FixedBytes, Makes};
 use site::Site;
@@ -6,6 +15,9 @@ use sqlite::{Alter, Connection, Error, ErrorCode, File, FileStore, MemStore};
 use std::alloc::Global;
 use store::SqlKeep;
 use store_list::ListKeep;
+use store_making::make_house;
+use store_open::open_house;
+use tree_order::Renumbered;
 
 /// Makes houses in memory.
 #[derive(Drop)]
@@ -64,9 +76,45 @@ pub(crate) struct Databases<'c, C> {
     pub(crate) place: &'c C,
 }
 
-impl<S: Alter + Drop, C: Connects<S>> Makes<SqlKeep<S>> for Databases<'_, C> {
-    fn empty(&self, alloc: Global, settings: Settings) -> Result<SqlKeep<S>, KeepFault> {
-        SqlKeep::create(alloc, self.place.connection()?, settings)
+impl<S: Alter + Drop, C: Connects<S>> Makes<SqlKeep<Renumbered<S>>> for Databases<'_, C> {
+    fn empty(
+        &self,
+        alloc: Global,
+        settings: Settings,
+    ) -> Result<SqlKeep<Renumbered<S>>, KeepFault> {
+        make_keep(alloc, self.place.connection()?, &settings)
+    }
+}
+
+/// The keep of a new house, which is made over a connection.
+pub(crate) fn make_keep<S: Alter + Drop>(
+    alloc: Global,
+    conn: Connection<S>,
+    settings: &Settings,
+) -> Result<SqlKeep<Renumbered<S>>, KeepFault>
+    ensures empty { IfOk result (λ keep. IsHonest (over_numbers S.Store) keep
+        → content (over_numbers S.Store) keep ≡ tables_of settings.now []) }
+{
+    let mut conn = conn;
+    make_house(&mut conn, settings)?;
+    open_keep(alloc, conn)
+}
+
+/// The keep of the house that a connection holds.
+pub(crate) fn open_keep<S: Alter + Drop>(
+    alloc: Global,
+    conn: Connection<S>,
+) -> Result<SqlKeep<Renumbered<S>>, KeepFault>
+    ensures shown { IfOk result (λ keep. (doubt (state S.Store conn).is_clean
+        ≤ doubt (state (over_numbers S.Store) keep.conn).is_clean)
+        × (IsHonest (over_numbers S.Store) keep
+        → IsHouse (state (over_numbers S.Store) keep.conn).now
+        × IsArranged (state S.Store conn).committed.trees
+        (state (over_numbers S.Store) keep.conn).now.trees)) }
+{
+    match open_house(alloc, conn) {
+        Ok(house) => Ok(SqlKeep::of_house(alloc, house)),
+        Err((fault, _)) => Err(fault),
     }
 }
 

@@ -14,7 +14,7 @@ use Rattle.steps.specs.Table.{IsBandTable}
 use Rattle.store_rows.specs.Rows.{reserves_in}
 use Rattle.store_rows.specs.Tables.{reserves_after, tables_in}
 use Rattle.store.specs.After.{bands_set, counts_after, with_table}
-use Rattle.store.proofs.Known.{row_by, where_by}
+use Rattle.store.proofs.Known.{row_by, seen_by, where_by}
 use Rattle.store.proofs.Moves.{editions_long}
 use Rattle.store.proofs.change_rows.make_change.Goals as goal
 
@@ -50,6 +50,10 @@ set_next-requires-clause-next g c = λ honest.
     ∙ ap (λ (change : Change). with_table (band_tables (tables_in db)) c.args.after.items (bands_set change)) c.in-SetBands.is) in
     omega (arith, c.newest.ensures, long, editions_long db, length-append (band_tables (tables_in db)).later)
 
+pub bid-requires-clause-seen : goal.bid-requires-clause-seen
+bid-requires-clause-seen g c = λ honest.
+    seen_by _ _ c.args.seen.now (c.requires.editions honest ∙ ap (λ (change : Change). with_table (band_tables (tables_in (state g.S.Store c.args.conn.now).now.trees)) c.args.after.items (bands_set change)) c.in-Bid.is) (c.requires.seen honest)
+
 pub bid-requires-clause-editions : goal.bid-requires-clause-editions
 bid-requires-clause-editions g c = λ honest.
     c.requires.editions honest ∙ ap (λ (change : Change). with_table (band_tables (tables_in (state g.S.Store c.args.conn.now).now.trees)) c.args.after.items (bands_set change)) c.in-Bid.is
@@ -57,6 +61,10 @@ bid-requires-clause-editions g c = λ honest.
 pub bid-requires-clause-reserves : goal.bid-requires-clause-reserves
 bid-requires-clause-reserves g c = λ honest.
     c.requires.reserves honest ∙ ap (λ (change : Change). reserves_after (reserves_in (state g.S.Store c.args.conn.now).now.trees) c.args.after.items change) c.in-Bid.is
+
+pub buy-requires-clause-seen : goal.buy-requires-clause-seen
+buy-requires-clause-seen g c = λ honest.
+    seen_by _ _ c.args.seen.now (c.requires.editions honest ∙ ap (λ (change : Change). with_table (band_tables (tables_in (state g.S.Store c.args.conn.now).now.trees)) c.args.after.items (bands_set change)) c.in-Buy.is) (c.requires.seen honest)
 
 pub buy-requires-clause-editions : goal.buy-requires-clause-editions
 buy-requires-clause-editions g c = λ honest.
@@ -73,6 +81,10 @@ close-requires-clause-editions g c = λ honest.
 pub close-requires-clause-reserves : goal.close-requires-clause-reserves
 close-requires-clause-reserves g c = λ honest.
     c.requires.reserves honest ∙ ap (λ (change : Change). reserves_after (reserves_in (state g.S.Store c.args.conn.now).now.trees) c.args.after.items change) c.in-Close.is
+
+pub settle-requires-clause-seen : goal.settle-requires-clause-seen
+settle-requires-clause-seen g c = λ honest.
+    seen_by _ _ c.args.seen.now (c.requires.editions honest ∙ ap (λ (change : Change). with_table (band_tables (tables_in (state g.S.Store c.args.conn.now).now.trees)) c.args.after.items (bands_set change)) c.in-Settle.is) (c.requires.seen honest)
 
 pub settle-requires-clause-editions : goal.settle-requires-clause-editions
 settle-requires-clause-editions g c = λ honest.

@@ -11,8 +11,8 @@ use Rattle.store_bids.specs.Judged.{BidFitsThere}
 use Rattle.store_bids.proofs.Placing.{commits_after, commits_reported, still_rests}
 use Rattle.store_bids.proofs.bidding.bid.Goals as goal
 
-pub check_standing-requires : goal.check_standing-requires
-check_standing-requires g c clean = let rest = c.requires.rests clean in (rest.is_open, rest.house, c.requires.reserves clean)
+pub check_standing-requires-clause-serves : goal.check_standing-requires-clause-serves
+check_standing-requires-clause-serves g c clean = let rest = c.requires.rests clean in (rest.is_open, rest.house, c.requires.reserves clean)
 
 pub commit_bid-requires-clause-rests : goal.commit_bid-requires-clause-rests
 commit_bid-requires-clause-rests g c clean =

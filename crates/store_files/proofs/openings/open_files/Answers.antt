@@ -1,11 +1,11 @@
-use Rattle.std.proofs.Common.{◌∙◌, ap, arith, inl, subst, sym}
+use Rattle.std.proofs.Common.{◌∙◌, ap, arith, inl, inr, subst, sym}
 use Rattle.std.proofs.lemmas.Result.{err_from_is_err_and}
 use Rattle.sqlite.specs.Files.{file_state}
 use Rattle.sqlite.specs.State.{HasCleanDisk}
 use Rattle.sqlite_trees.proofs.Doubt.{no_doubt}
 use Rattle.store_rows.specs.Tables.{tables_in}
 use Rattle.store_house.specs.Named.{IsArranged, tables_held}
-use Rattle.store_files.specs.InOrder.{order_state}
+use Rattle.store.specs.InOrder.{order_state}
 use Rattle.store_files.proofs.Opened.{finds_left, holds_none, leaves_in_order, names_find}
 use Rattle.store_files.proofs.openings.open_files.Goals as goal
 
@@ -58,7 +58,10 @@ returns-in-Ok-clause-only g c = rw (c.of_house.ensures.conn) (λ honest tables l
 pub returns-in_err-conn-clause-damaged : goal.returns-in_err-conn-clause-damaged
 returns-in_err-conn-clause-damaged g c =
     let p = err_from_is_err_and c.from_residual.result c.from_residual.ensures.1 in
-    rw (p.1, p.2) c.in_err-conn.ensures.damaged
+    rw (p.1, p.2) (λ is clean. elim (c.in_err-conn.ensures.damaged is clean) [
+      | inl none ↦ inl (λ held. none held.0 held.1)
+      | inr fault ↦ inr fault
+    ])
 
 pub returns-in-Err-clause-left : goal.returns-in-Err-clause-left
 returns-in-Err-clause-left g c =

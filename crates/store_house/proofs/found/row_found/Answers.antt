@@ -3,7 +3,13 @@ use Rattle.sqlite.specs.Held.{state}
 use Rattle.sqlite.specs.State.{HasCleanDisk}
 use Rattle.store_rows.proofs.RowLemmas.{first_is}
 use Rattle.store_rows.proofs.StateLemmas.{ok_then}
+use Rattle.store_house.proofs.NumbersLemmas.{finds_err, reads_err, reads_still}
 use Rattle.store_house.proofs.found.row_found.Goals as goal
+
+pub returns-in_err-rows-clause-finds : goal.returns-in_err-rows-clause-finds
+returns-in_err-rows-clause-finds g c table keep lists =
+    finds_err _ _ _ _ _ _ _ c.from_residual.ensures.1 (λ _ _. c.in_err-rows.ensures.sound)
+    (reads_err _ _ _ c.from_residual.ensures.1 c.in_err-rows.ensures.read)
 
 pub returns-clause-finds : goal.returns-clause-finds
 returns-clause-finds g c table keep lists =
@@ -17,5 +23,5 @@ returns-clause-finds g c table keep lists =
     record {
       value = λ clean. ok_then c.first_of.result c.first_of.ensures.value (λ _ e. e ∙ found clean);
       damaged = λ clean fits. c.first_of.ensures.damaged (subst (λ o. IfSome o g.T.Stored.fits) (sym (found clean)) fits);
-      read = search rules;
+      read = reads_still old new c.first_of.result c.in_ok-rows.ensures.read;
     }

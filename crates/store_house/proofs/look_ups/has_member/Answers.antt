@@ -3,6 +3,7 @@ use Rattle.sqlite.specs.Held.{state}
 use Rattle.house_rows.specs.Fits.{IsMember, MemberFits}
 use Rattle.house_rows.specs.declared.people.Member.{Member}
 use Rattle.store_rows.specs.Rows.{members_in}
+use Rattle.store_house.proofs.NumbersLemmas.{finds_err, finds_ok, reads_err, reads_still}
 use Rattle.store_house.proofs.FindMeaning.{has_member_is}
 use Rattle.store_house.proofs.PeopleFinds.{here_number, member_found}
 use Rattle.store_house.proofs.look_ups.has_member.Goals as goal
@@ -11,31 +12,32 @@ use Rattle.store_house.proofs.look_ups.has_member.Goals.{else-member-ge1-via-the
 pub rows_shown-requires-clause-plain : goal.rows_shown-requires-clause-plain
 rows_shown-requires-clause-plain g c = has_member_is.2
 
+pub returns-in_err-rows-clause-finds : goal.returns-in_err-rows-clause-finds
+returns-in_err-rows-clause-finds g c =
+    finds_err _ _ _ _ _ _ _ c.from_residual.ensures.1 (λ _ _. c.in_err-rows.ensures.sound)
+    (reads_err _ _ _ c.from_residual.ensures.1 c.in_err-rows.ensures.read)
+
 pub returns-then-is_empty-clause-finds : goal.returns-then-is_empty-clause-finds
 returns-then-is_empty-clause-finds g c =
     let old = state g.S.Store c.args.conn.now in
     let low : c.args.member < 2 ^ 32 = omega (arith, c.ranges.member) in
     let none : c.is_empty.result ≡ (length c.in_ok-rows.rows.items == 0) = search rules in
-    record {
-      value = λ clean. (
-          let shown = rw c.params-to_sql.ensures at (c.in_ok-rows.ensures.rows clean) in
-          ap not (sym c.if-is_empty.true ∙ none) ∙ member_found c.args.member low old (state g.S.Store c.rows_shown.new.conn) c.in_ok-rows.rows.items (c.rows_shown.ensures.house clean) shown);
-      damaged = search rules;
-      read = search rules;
-    }
+    finds_ok _ _ _ _ _ _
+    (λ clean.
+    let shown = rw c.params-to_sql.ensures at (c.in_ok-rows.ensures.rows clean) in
+    ap not (sym c.if-is_empty.true ∙ none) ∙ member_found c.args.member low old (state g.S.Store c.rows_shown.new.conn) c.in_ok-rows.rows.items (c.rows_shown.ensures.house clean) shown)
+    (reads_still _ _ _ c.in_ok-rows.ensures.read)
 
 pub returns-then-member-le-MOST_MEMBERS-clause-finds : goal.returns-then-member-le-MOST_MEMBERS-clause-finds
 returns-then-member-le-MOST_MEMBERS-clause-finds g c =
     let old = state g.S.Store c.args.conn.now in
     let low : c.args.member < 2 ^ 32 = omega (arith, c.ranges.member) in
     let none : c.is_empty.result ≡ (length c.in_ok-rows.rows.items == 0) = search rules in
-    record {
-      value = λ clean. (
-          let shown = rw c.params-to_sql.ensures at (c.in_ok-rows.ensures.rows clean) in
-          ap not (sym c.if-is_empty.false ∙ none) ∙ member_found c.args.member low old (state g.S.Store c.rows_shown.new.conn) c.in_ok-rows.rows.items (c.rows_shown.ensures.house clean) shown);
-      damaged = search rules;
-      read = search rules;
-    }
+    finds_ok _ _ _ _ _ _
+    (λ clean.
+    let shown = rw c.params-to_sql.ensures at (c.in_ok-rows.ensures.rows clean) in
+    ap not (sym c.if-is_empty.false ∙ none) ∙ member_found c.args.member low old (state g.S.Store c.rows_shown.new.conn) c.in_ok-rows.rows.items (c.rows_shown.ensures.house clean) shown)
+    (reads_still _ _ _ c.in_ok-rows.ensures.read)
 
 pub returns-clause-finds : goal.returns-clause-finds
 returns-clause-finds g c =
@@ -43,7 +45,7 @@ returns-clause-finds g c =
     let low : c.args.member < 2 ^ 32 = omega (arith, c.ranges.member) in
     let none : c.is_empty.result ≡ (length c.in_ok-rows.rows.items == 0) = search rules in
     record {
-      value = search rules;
+      value = λ _. tt;
       damaged = λ clean fits is. (
           let shown = rw c.params-to_sql.ensures at (c.in_ok-rows.ensures.rows clean) in
           let some = ap not (sym c.if-is_empty.false ∙ none) ∙ member_found c.args.member low old (state g.S.Store c.rows_shown.new.conn) c.in_ok-rows.rows.items (c.rows_shown.ensures.house clean) shown in
@@ -52,5 +54,5 @@ returns-clause-finds g c =
             | else-member-ge1-via-then-member-ge1+else-member-le-MOST_MEMBERS w ↦ omega (arith, within.1, w.if-member-le-MOST_MEMBERS.false)
             | else-member-ge1-via-else-member-ge1 w ↦ omega (arith, within.0, w.if-member-ge1.false)
           ]);
-      read = search rules;
+      read = reads_still _ _ _ c.in_ok-rows.ensures.read;
     }

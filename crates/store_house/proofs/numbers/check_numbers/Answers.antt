@@ -1,4 +1,4 @@
-use Rattle.std.proofs.Common.{◌≡◌, ◌<◌, ◌^◌, [], ◌∷◌, pos, false, rules, subst, sym, arith}
+use Rattle.std.proofs.Common.{◌≡◌, ◌<◌, ◌^◌, [], ◌∷◌, pos, false, subst, sym, arith}
 use Rattle.std.specs.List.{AllByRecursion}
 use Rattle.std.proofs.lemmas.Result.{on_ok_weaker}
 use Rattle.sqlite_value.specs.declared.value.Value.TheVariants.{Int}
@@ -7,20 +7,24 @@ use Rattle.sqlite.specs.Held.{state}
 use Rattle.sqlite.specs.State.{HasCleanDisk}
 use Rattle.store_rows.specs.Plain.{passes}
 use Rattle.store_house.specs.Numbers.{AreWithin, is_above, is_below}
-use Rattle.store_house.proofs.NumbersLemmas.{between, none_pass, none_shown, within}
+use Rattle.store_house.proofs.NumbersLemmas.{between, finds_err, none_pass, none_shown, reads_err, reads_then, within}
 use Rattle.store_house.proofs.numbers.check_numbers.Goals as goal
 
+pub returns-in_err-shows_none-clause-read : goal.returns-in_err-shows_none-clause-read
+returns-in_err-shows_none-clause-read g c = reads_err _ _ _ c.from_residual.ensures.1 c.in_err-shows_none.ensures.read
+
 pub returns-in_err-shows_none-clause-finds : goal.returns-in_err-shows_none-clause-finds
-returns-in_err-shows_none-clause-finds g c tree is lows highs = record {
-  value = search rules;
-  damaged = λ clean all. (
-      let old = state g.S.Store c.args.conn.now in
-      let low : c.args.most < 2 ^ 32 = omega (arith, c.ranges.most) in
-      let none = (between c.args.most low (old.now.trees tree) all).0 in
-      let calm = c.in_err-shows_none.ensures.damaged clean (none_shown tree is old (state g.S.Store c.shows_none.new.conn) (c.shows_none.ensures.house clean) c.args.below.now is_below [] c.requires.plain.0 lows none) in
-      search rules);
-  read = search rules;
-}
+returns-in_err-shows_none-clause-finds g c tree is lows highs =
+    let old = state g.S.Store c.args.conn.now in
+    let middle = state g.S.Store c.shows_none.new.conn in
+    let low : c.args.most < 2 ^ 32 = omega (arith, c.ranges.most) in
+    finds_err _ _ _ _ _ _ _ c.from_residual.ensures.1
+    (λ clean all. c.in_err-shows_none.ensures.damaged clean
+    (none_shown tree is old middle (c.shows_none.ensures.house clean) c.args.below.now is_below [] c.requires.plain.0 lows (between c.args.most low (old.now.trees tree) all).0))
+    (returns-in_err-shows_none-clause-read g c)
+
+pub returns-clause-read : goal.returns-clause-read
+returns-clause-read g c = reads_then _ _ _ _ c.in_ok-shows_none.ensures.read c.shows_none-2.ensures.read
 
 pub returns-clause-finds : goal.returns-clause-finds
 returns-clause-finds g c tree is lows highs =
@@ -42,5 +46,5 @@ returns-clause-finds g c tree is lows highs =
           let still = subst (λ (db : Database). AreWithin c.args.most (db.trees tree)) (sym (same clean)) all in
           let none = (between c.args.most low (middle.now.trees tree) still).1 in
           c.shows_none-2.ensures.damaged clean (λ rows shown. none_shown tree is middle new (c.shows_none-2.ensures.house clean) c.args.above.now is_above (Int (pos c.args.most) ∷ []) c.requires.plain.1 highs none rows (rw c.params-to_sql.ensures at shown)));
-      read = search rules;
+      read = returns-clause-read g c;
     }

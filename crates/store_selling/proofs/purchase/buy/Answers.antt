@@ -6,8 +6,8 @@ use Rattle.store_rows.specs.Commits.{MadeBy}
 use Rattle.store_rows.proofs.CommitSteps.{survives_change, survives_commit}
 use Rattle.store_selling.proofs.purchase.buy.Goals as goal
 
-pub check_unbid-requires : goal.check_unbid-requires
-check_unbid-requires g c clean = let rest = c.requires.rests clean in (rest.is_open, rest.house, c.requires.reserves clean)
+pub check_unbid-requires-clause-serves : goal.check_unbid-requires-clause-serves
+check_unbid-requires-clause-serves g c clean = let rest = c.requires.rests clean in (rest.is_open, rest.house, c.requires.reserves clean)
 
 pub returns-in_err-check_unbid-clause-damaged : goal.returns-in_err-check_unbid-clause-damaged
 returns-in_err-check_unbid-clause-damaged g c clean here fits =

@@ -8,7 +8,7 @@ use Rattle.store_selling.proofs.purchase.check_unbid.Goals as goal
 pub returns-in_err-auction : goal.returns-in_err-auction
 returns-in_err-auction g c = record {
   value = search rules;
-  damaged = λ clean fit is. c.in_err-auction.ensures.finds.damaged clean (record { row = fit.row; there = (fit.purchase.row, fit.purchase.row_there) }) (search rules);
+  damaged = λ clean fit is. c.in_err-auction.ensures.damaged clean (record { row = fit.row; there = (fit.purchase.row, fit.purchase.row_there) }) (search rules);
   read = search rules;
 }
 
@@ -16,13 +16,13 @@ pub returns-then-is_unbid : goal.returns-then-is_unbid
 returns-then-is_unbid g c = record {
   value = λ clean. (
       let db = (state g.S.Store c.args.conn.now).now in
-      let before = c.requires (omega (arith, c.auction_there.ensures.finds.read.crash.clean, clean)) in
+      let before = c.requires.serves (omega (arith, c.auction_seen.ensures.read.crash.clean, clean)) in
       let low : c.args.item < 2 ^ 32 = omega (arith, c.ranges.item) in
       let auction = c.in_ok-auction.auction in
-      let known = c.in_ok-auction.ensures in
+      let known = c.in_ok-auction.ensures.value clean in
       record {
-        there = has_standing_item c.args.rules.now.editions db.trees c.args.item auction.terms (terms_found _ auction (known.finds.value clean)) known.fits known.is_consistent;
-        unbid = unbid_checked db before.1 c.args.item low auction (known.finds.value clean) known.fits (sym c.is_unbid.ensures ∙ c.if-is_unbid.true);
+        there = has_standing_item c.args.rules.now.editions db.trees c.args.item auction.terms (terms_found _ auction known.found) known.fits known.is_consistent;
+        unbid = unbid_checked db before.1 c.args.item low auction known.found known.fits (sym c.is_unbid.ensures ∙ c.if-is_unbid.true);
       });
   damaged = search rules;
   read = search rules;
@@ -32,7 +32,7 @@ pub returns-else-is_unbid : goal.returns-else-is_unbid
 returns-else-is_unbid g c = record {
   value = search rules;
   damaged = λ clean fit _. (
-      let is = purchase_unbid (state g.S.Store c.args.conn.now).now.trees c.args.rules.now.editions fit.moment c.args.item fit.buyer fit.price c.in_ok-auction.auction fit.row fit.purchase (c.in_ok-auction.ensures.finds.value clean) in
+      let is = purchase_unbid (state g.S.Store c.args.conn.now).now.trees c.args.rules.now.editions fit.moment c.args.item fit.buyer fit.price c.in_ok-auction.auction fit.row fit.purchase (c.in_ok-auction.ensures.value clean).found in
       true≢false (sym is ∙ sym c.is_unbid.ensures ∙ c.if-is_unbid.false));
   read = search rules;
 }

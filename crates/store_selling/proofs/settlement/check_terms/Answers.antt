@@ -9,11 +9,11 @@ pub returns : goal.returns
 returns g c = record {
   value = λ clean. (
       let db = (state g.S.Store c.args.conn.now).now in
-      let before = c.requires (omega (arith, c.auction_there.ensures.finds.read.crash.clean, clean)) in
+      let before = c.requires.serves (omega (arith, c.auction_seen.ensures.read.crash.clean, clean)) in
       let low : c.args.item < 2 ^ 32 = omega (arith, c.ranges.item) in
-      let auction = c.in_ok-auction_there.field-0 in
-      let known = c.in_ok-auction_there.ensures in
-      let found = terms_found _ auction (known.finds.value clean) in
+      let auction = c.in_ok-auction_seen.field-0 in
+      let known = c.in_ok-auction_seen.ensures.value clean in
+      let found = terms_found _ auction known.found in
       record {
         there = has_standing_item c.args.rules.now.editions db.trees c.args.item auction.terms found known.fits known.is_consistent;
         fits = start_checked db before.1 c.args.item low auction.terms found known.fits;

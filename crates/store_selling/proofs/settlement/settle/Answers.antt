@@ -6,8 +6,8 @@ use Rattle.store_rows.specs.Commits.{MadeBy}
 use Rattle.store_rows.proofs.CommitSteps.{survives_change, survives_commit}
 use Rattle.store_selling.proofs.settlement.settle.Goals as goal
 
-pub check_terms-requires : goal.check_terms-requires
-check_terms-requires g c clean = let rest = c.requires.rests clean in (rest.is_open, rest.house, c.requires.reserves clean)
+pub check_terms-requires-clause-serves : goal.check_terms-requires-clause-serves
+check_terms-requires-clause-serves g c clean = let rest = c.requires.rests clean in (rest.is_open, rest.house, c.requires.reserves clean)
 
 pub returns-in_err-check_terms-clause-damaged : goal.returns-in_err-check_terms-clause-damaged
 returns-in_err-check_terms-clause-damaged g c clean here fits =

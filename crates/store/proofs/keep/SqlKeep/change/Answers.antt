@@ -1,5 +1,5 @@
 -- A change that is made moves what the keep knows; after one that failed a crash leaves what it left before, unless the keep failed.
-use Rattle.std.proofs.Common.{◌≡◌, ◌∙◌, ◌<◌, ◌+◌, ℕ, List, ap, arith, refl, rules, false, inl, inr, subst, sym}
+use Rattle.std.proofs.Common.{◌≡◌, ◌∙◌, List, ap, arith, rules, false, inl, inr, subst, sym}
 use Rattle.std.specs.Prelude.{IsTrue}
 use Rattle.sqlite.specs.Held.{state}
 use Rattle.sqlite.specs.State.{HasCleanDisk}
@@ -12,6 +12,7 @@ use Rattle.store_rows.specs.declared.rules.Rules.{Rules}
 use Rattle.store.specs.After.{bands_set, with_table}
 use Rattle.store.specs.Kept.{content}
 use Rattle.store.proofs.Houses.{houses_or_made, houses_stay, shown_houses}
+use Rattle.store.proofs.Known.{forgotten, seen_in}
 use Rattle.store.proofs.Moves.{can_add, known_after, left_after}
 use Rattle.store.proofs.keep.SqlKeep.change.Goals as goal
 
@@ -51,9 +52,13 @@ make_change-requires-clause-reserves g c clean =
     ap (λ (r : Rules). r.reserves) c.in_ok-add_rules.ensures.value
     ∙ ap (λ (l : List ReserveRow). reserves_after l c.in-Some-counts_after.counts.items c.args.change.now) (c.self.invariant.known c.if-self.false clean).reserves_are
 
+-- what was seen is what the tables have before the change
+pub make_change-requires-clause-seen : goal.make_change-requires-clause-seen
+make_change-requires-clause-seen g c = λ honest. rw (c.take-seen.ensures.value) (seen_in _ _ _ _ _ (c.self.invariant.known c.if-self.false honest))
+
 -- a change that is made moves what the keep knows
 pub invariant_of-self-in-Ok : goal.invariant_of-self-in-Ok
-invariant_of-self-in-Ok g c = record {
+invariant_of-self-in-Ok g c = rw (c.take-seen.ensures.after) (record {
   idle = c.in-Ok.ensures.commit.mode;
   moment = c.in-Some.ensures.fits;
   rests = λ going honest. let ok = c.in-Ok.ensures.commit.ok honest in record { is_open = ok.0; house = ok.2.house; settled = ok.1; numbered = ok.2.numbered };
@@ -61,19 +66,21 @@ invariant_of-self-in-Ok g c = record {
       let before : HasCleanDisk (state g.S.Store c.self.inside.conn) = omega (arith, c.in-Ok.ensures.commit.crash.clean, honest) in
       rw (c.in_ok-add_rules.ensures.value, c.in-Some-counts_after.ensures.value, c.in-Some.ensures.value)
       (known_after c.self.inside.rules.editions c.self.inside.rules.reserves c.self.inside.counts c.self.inside.clock c.args.change.now (state g.S.Store c.self.inside.conn).now _ (c.self.invariant.known c.if-self.false before) (c.in-Ok.ensures.commit.ok honest).2);
+  seen_fits = tt;
   houses = shown_houses (state g.S.Store c.make_change.new.conn) c.in-Ok.ensures.commit.only (λ honest. (c.in-Ok.ensures.commit.ok honest).2.house);
-}
+})
 
 -- where it fails a crash leaves what it left before, or the change
 pub invariant_of-self-in-Err : goal.invariant_of-self-in-Err
-invariant_of-self-in-Err g c = record {
+invariant_of-self-in-Err g c = rw (c.take-seen.ensures.after) (record {
   idle = search rules;
   moment = search rules;
   rests = search rules;
-  known = search rules;
+  known = λ going honest. forgotten {seen = c.self.inside.seen} _ _ _ _ _ (search rules);
+  seen_fits = tt;
   houses = houses_stay _ _ c.reported_fault.ensures.crash
       (houses_or_made c.args.change.now _ _ c.in-Err.ensures.commit.crash c.self.invariant.houses);
-}
+})
 
 pub returns-in-Err-clause-crash : goal.returns-in-Err-clause-crash
 returns-in-Err-clause-crash g c = rw (← c.self.view_is) (λ honest t left.

@@ -8,5 +8,6 @@ invariant_of-result g c = record {
   moment = c.requires.moment;
   rests = λ going honest. c.requires.rests honest;
   known = λ going honest. known_read _ _ _ _ _ (c.requires.editions honest) (c.requires.reserves honest) (c.requires.counts honest) (c.requires.clock honest);
+  seen_fits = tt;
   houses = rests_in_houses _ (λ db is_open may. g.met.S.Store.settled c.args.house.conn.store db is_open may) c.requires.rests;
 }

@@ -1,0 +1,21 @@
+use Rattle.std.proofs.Common.{◌∙◌, Bool, List, cond, ℕ, ap₂, subst, sym}
+use Rattle.sqlite.specs.Files.{HoldsDatabase}
+use Rattle.sqlite_disk.specs.Events.{Event, replay}
+use Rattle.auction.proofs.Opened.{bytes_of}
+use Rattle.auction.proofs.copies.RenumberedFileStoreStoreInMemory.open_twice.Goals as goal
+
+abbrev seen : List ℕ → List ℕ → Bool → List Event → List ℕ
+seen log db is_log history = (replay (cond is_log log db) history).seen
+
+pub returns-in-Ok-clause-copies : goal.returns-in-Ok-clause-copies
+returns-in-Ok-clause-copies g c = λ at clean.
+    let fresh = c.in_ok-files.ensures.fresh at in
+    let same = ap₂ bytes_of (ap₂ (seen g.T.Start.log g.T.Start.db) fresh.0.0 fresh.0.1) (ap₂ (seen g.T.Start.log g.T.Start.db) fresh.1.0 fresh.1.1) in
+    record {
+      left_has = λ honest t held.
+          c.in-Ok.ensures.left clean honest held.db (subst (λ i. HoldsDatabase i held.db) (sym same) held.holds)
+          ∙ sym held.tables;
+      right_has = λ honest t held.
+          c.in-Ok.ensures.right clean honest held.db (subst (λ i. HoldsDatabase i held.db) (sym same) held.holds)
+          ∙ sym held.tables;
+    }

@@ -1,5 +1,0 @@
-use Rattle.store.proofs.Crashed.{holds_left}
-use Rattle.store.proofs.reopenings.crashes_leave_databases.Goals as goal
-
-pub returns : goal.returns
-returns g c before left crashed = holds_left before left crashed

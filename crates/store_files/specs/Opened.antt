@@ -1,0 +1,40 @@
+-- A keep that was opened at a path, by what the files held that lay there. Start here.
+use Rattle.std.specs.Prelude.{◌≡◌, ℕ, List, [], Bool, false}
+use Rattle.house_rows.specs.Tables.{Tables, tables_of}
+use Rattle.house_rows.specs.declared.settings.Settings.{Settings}
+use Rattle.sqlite.specs.Files.{HoldsDatabase}
+use Rattle.sqlite_trees.specs.Tree.{Trees}
+use Rattle.sqlite_wal.specs.Recovery.{Image}
+use Rattle.store_files.specs.InOrder.{HoldsNoTable, HoldsTables, tables_after}
+
+-- A crash leaves the tables of a keep alone, and the keep has not failed.
+pub record IsBegun {K : Type 0} (content : K → Tables) (is_failed : K → Bool)
+    (is_honest : K → Type 0) (may_leave : K → Tables → Type 0) (keep : K) : Type 0 where
+  pub only : is_honest keep → (t : Tables) → may_leave keep t → t ≡ content keep
+  pub works : is_failed keep ≡ false
+
+-- A keep was opened at a path. Where this is the name of files that held this, it has the tables that
+-- they held.
+pub record IsOpened {K : Type 0} (content : K → Tables) (is_failed : K → Bool)
+    (is_honest : K → Type 0) (may_leave : K → Tables → Type 0) (name : List ℕ) (image : Image)
+    (path : List ℕ) (keep : K) : Type 0 where
+  pub found : path ≡ name → is_honest keep → (t : Tables) → HoldsTables image t → content keep ≡ t
+  pub begun : IsBegun content is_failed is_honest may_leave keep
+
+-- A keep was made at a path. It has the tables of a new house; where this is the name of files that
+-- held this, they held no table.
+pub record IsMade {K : Type 0} (content : K → Tables) (is_failed : K → Bool)
+    (is_honest : K → Type 0) (may_leave : K → Tables → Type 0) (name : List ℕ) (image : Image)
+    (path : List ℕ) (settings : Settings) (keep : K) : Type 0 where
+  pub blank : path ≡ name → is_honest keep → HoldsNoTable image
+  pub empty : is_honest keep → content keep ≡ tables_of settings []
+  pub begun : IsBegun content is_failed is_honest may_leave keep
+
+-- A keep was opened at a path, and its house upgraded where it was of version 1. Where this is the
+-- name of files that held this, it has the tables of what they held.
+pub record IsUpgraded {K : Type 0} (content : K → Tables) (is_failed : K → Bool)
+    (is_honest : K → Type 0) (may_leave : K → Tables → Type 0) (name : List ℕ) (image : Image)
+    (path : List ℕ) (was_first : Bool) (keep : K) : Type 0 where
+  pub found : path ≡ name → is_honest keep → (db : Trees) → HoldsDatabase image db
+      → content keep ≡ tables_after was_first db
+  pub begun : IsBegun content is_failed is_honest may_leave keep
