@@ -1,8 +1,10 @@
 pub mod Accounts
+pub mod Begun
 pub mod Compared
 pub mod FaultLines
 pub mod Outcomes
 pub mod Replays
 pub mod Rows
 pub mod Served
+pub mod Unready
 pub mod Zones

@@ -1,5 +1,5 @@
 -- What is known of a run by how it ended.
-use Rattle.std.proofs.Common.{◌≡◌, ◌⊎◌, ◌↔◌, ℕ, List, Option, Ok, Err, inl, inr, sym, subst}
+use Rattle.std.proofs.Common.{◌≡◌, ◌⊎◌, ◌↔◌, ℕ, List, Bool, true, false, Option, Ok, Err, inl, inr, refl, sym, subst}
 use Rattle.std.specs.Prelude.{IfErr, IfOk, IsErr, IsOk, OnErr, OnOk, Result}
 use Rattle.device.specs.declared.sink.Sink as sink
 use Rattle.site_serve.specs.Serving.{IsFlushed}
@@ -7,7 +7,7 @@ use Rattle.house_rows.specs.declared.fault.KeepFault.{KeepFault}
 use Rattle.auction_runs.specs.Faults.{IsEndFault, IsOfEnd, IsOfEnded, IsOfKeep}
 use Rattle.house_rows.specs.declared.command.Command.{Command}
 use Rattle.house_rows.specs.Tables.{Tables}
-use Rattle.auction_runs.specs.Lines.{IsReported, IsTold}
+use Rattle.auction_runs.specs.Lines.{IsReported, IsTold, TellsFinding}
 use Rattle.auction_runs.specs.Tabled.{HasSet, IsUndone, IsUntold}
 use Rattle.auction_runs.specs.declared.fault.TaskFault.{TaskFault}
 use Rattle.auction_runs.specs.declared.fault.TaskFault.TheVariants.{Write}
@@ -122,3 +122,15 @@ reported_by w MayHave old new status (Ok u) done failed quiet told may =
     (λ e. quiet (done.0 e), λ e. let wrong = failed.0 e in absurd cc)
 reported_by w MayHave old new status (Err fault) done failed quiet told may =
     (λ e. let wrong = done.0 e in absurd cc, λ e. (fault, may, told))
+
+-- what a run tells that finds something out
+pub finding_told : {W : Type 0} (w : sink.Ghosts W) (Found : Bool → Type 0) (MayHave : TaskFault → Type 0)
+    (old new : W) (status : ℕ) (found : Result Bool TaskFault) → ((status ≡ 0) ↔ (found ≡ Ok true))
+    → (IsOk found → new ≡ old) → IfErr found (IsTold w old new) → IfOk found Found → IfErr found MayHave
+    → TellsFinding w Found MayHave old new status
+finding_told w Found MayHave old new status (Ok true) so quiet told is may =
+    (λ e. (is, quiet refl), λ e. let zero = so.1 refl in absurd cc)
+finding_told w Found MayHave old new status (Ok false) so quiet told is may =
+    (λ e. let wrong = so.0 e in absurd cc, λ e. inl (is, quiet refl))
+finding_told w Found MayHave old new status (Err fault) so quiet told is may =
+    (λ e. let wrong = so.0 e in absurd cc, λ e. inr (fault, may, told))

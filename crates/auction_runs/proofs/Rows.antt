@@ -1,12 +1,13 @@
 -- The rows of a lot file that was imported.
 use Rattle.std.proofs.Common.{◌≡◌, ◌≢◌, ◌∙◌, ◌⊎◌, ◌++◌, ℕ, ◌≤◌, List, [], ◌∷◌, Bool, Option, Some, None, Result, Ok, Err, ap, arith, inl, inr, refl, subst, sym}
-use Rattle.std.specs.Prelude.{IfErr, IfOk}
+use Rattle.std.specs.Prelude.{IfErr, IfOk, IsOk, OnErr, OnOk}
 use Rattle.std.specs.Io.KnownBytes.{Appends, Keeps}
 use Rattle.std.specs.List.{FoldsTo}
 use Rattle.house_rows.specs.Tables.{Tables}
 use Rattle.office.specs.Imports.{HasEnded, HasListed, HasOrdered, IsCounted, UnlessWrite}
 use Rattle.office.specs.Lines.{totals_line}
 use Rattle.office.specs.Tallies.{counted, nothing}
+use Rattle.house_rows.specs.declared.fault.KeepFault.{KeepFault}
 use Rattle.house_rows.specs.declared.keep.Keep as keep
 use Rattle.office.specs.declared.fault.ImportFault.{ImportFault}
 use Rattle.office.specs.declared.fault.ImportFault.TheVariants as importing
@@ -19,8 +20,9 @@ use Rattle.settle.specs.declared.zone.Zone.{Zone}
 use Rattle.site.specs.Replies.{IsStep}
 use Rattle.site_request.specs.declared.asked.Asked.{Asked}
 use Rattle.steps.specs.Reading.{records_of}
-use Rattle.auction_runs.specs.Faults.{fault_of_import}
-use Rattle.auction_runs.specs.Listed.{HasAll, HasDealt, HasDealtSome, HasPrinted, HasTaken, IsDealtPart, IsHad, IsKnown}
+use Rattle.auction_runs.specs.Faults.{IsEndFault, fault_of_import, fault_of_keep}
+use Rattle.auction_runs.specs.Listed.{HasAll, HasDealt, HasDealtSome, HasFault, HasPrinted, HasRefused, HasTaken, IsDealtPart, IsHad, IsKnown, IsUnimported, IsWhole}
+use Rattle.auction_runs.proofs.Outcomes.{either_end}
 use Rattle.auction_runs.specs.declared.fault.TaskFault.{TaskFault}
 use Rattle.auction_runs.specs.declared.fault.TaskFault.TheVariants.{Write}
 
@@ -231,7 +233,7 @@ module _ {K R : Type 0} (k : keep.Ghosts K) (remaining : R → Option (List ℕ)
         (λ x p. grown before between after x keeps p) ended));
   }
 
-  pub part_of_import : (r : Result Imported TaskFault) (s : Result Imported ImportFault)
+  pub fault_of_rows : (r : Result Imported TaskFault) (s : Result Imported ImportFault)
       → IfErr r (λ fault. ((importing : ImportFault) × (s ≡ Err importing)
       × (fault ≡ fault_of_import importing))
       ⊎ ((report : Imported) × (s ≡ Ok report) × (fault ≡ Write)))
@@ -242,30 +244,53 @@ module _ {K R : Type 0} (k : keep.Ghosts K) (remaining : R → Option (List ℕ)
       → IfErr s (λ fault. (text : List ℕ) → remaining mine ≡ Some text
       → HasEnded (IsStep k.content k.is_failed k.is_honest k.may_leave zone) (Appends before between)
       by (records_of text) fault begun left)
-      → IfErr r (λ fault. (reader : R) → lots ≡ Ok reader → (text : List ℕ)
-      → remaining reader ≡ Some text → IsDealtPart k by text before after given fault last)
-  part_of_import (Ok x) s why listed ended = tt
-  part_of_import (Err fault) s (inl (importing, is, fault_is)) listed ended = λ reader at text gives.
-      let same : reader ≡ mine = cc (opened, at) in
-      inr (inl (some_dealt importing fault fault_is text (subst
-      (λ v. IfErr v (λ f. (t : List ℕ) → remaining mine ≡ Some t
-      → HasEnded (IsStep k.content k.is_failed k.is_honest k.may_leave zone) (Appends before between)
-      by (records_of t) f begun left)) is ended text (subst (λ q. remaining q ≡ Some text) same gives))))
-  part_of_import (Err fault) s (inr (report, is, fault_is)) listed ended = λ reader at text gives.
-      inr (inr (
-        fault_is,
-        (
-          report,
-          dealt k.content k.is_failed k.is_honest k.may_leave (λ q. q ≡ last)
-              remaining by given begun (taken k.content k.is_failed k.is_honest k.may_leave (λ q. q ≡ last) by
-              given asked begun left last zone member begun_is kept_zone ordered last_is refl) lots mine before
-              between after report opened begun_is keeps
-              (subst (λ v. IfOk v (λ x. (t : List ℕ) → remaining mine ≡ Some t
-              → HasListed (IsStep k.content k.is_failed k.is_honest k.may_leave zone)
-              (λ printed. Appends before between (printed ++ totals_line x))
-              by (records_of t) x begun left)) is listed) reader at text gives,
-        ),
-      ))
+      → IfErr r (HasFault k remaining lots by before after given last)
+  fault_of_rows (Ok x) s why listed ended = tt
+  fault_of_rows (Err fault) s (inl (importing, is, fault_is)) listed ended = inr (record {
+    reader = mine;
+    opened = opened;
+    asked = asked;
+    member = member;
+    importing = importing;
+    report = fault_is;
+    part = λ text gives. inl (some_dealt importing fault fault_is text (subst
+        (λ v. IfErr v (λ f. (t : List ℕ) → remaining mine ≡ Some t
+        → HasEnded (IsStep k.content k.is_failed k.is_honest k.may_leave zone) (Appends before between)
+        by (records_of t) f begun left)) is ended text gives));
+  })
+  fault_of_rows (Err fault) s (inr (report, is, fault_is)) listed ended = inr (record {
+    reader = mine;
+    opened = opened;
+    asked = asked;
+    member = member;
+    importing = importing.Write;
+    report = fault_is;
+    part = λ text gives. inr (
+      fault_is,
+      (
+        report,
+        dealt k.content k.is_failed k.is_honest k.may_leave (λ q. q ≡ last)
+            remaining by given begun (taken k.content k.is_failed k.is_honest k.may_leave (λ q. q ≡ last) by
+            given asked begun left last zone member begun_is kept_zone ordered last_is refl) lots mine before
+            between after report opened begun_is keeps
+            (subst (λ v. IfOk v (λ x. (t : List ℕ) → remaining mine ≡ Some t
+            → HasListed (IsStep k.content k.is_failed k.is_honest k.may_leave zone)
+            (λ printed. Appends before between (printed ++ totals_line x))
+            by (records_of t) x begun left)) is listed) mine opened text gives,
+      ),
+    );
+  })
+
+-- what was printed of a file before a fault
+part_of : {K R : Type 0} (k : keep.Ghosts K) (remaining : R → Option (List ℕ)) (by : Lister)
+    (given last : K) (lots : Result R TaskFault) (before after : Option (List ℕ)) (fault : TaskFault)
+    → HasFault k remaining lots by before after given last fault
+    → (reader : R) → lots ≡ Ok reader → (text : List ℕ) → remaining reader ≡ Some text
+    → IsDealtPart k by text before after given fault last
+part_of k remaining by given last lots before after fault (inl (keeps, why)) reader at text gives = inl keeps
+part_of k remaining by given last lots before after fault (inr stopped) reader at text gives =
+    let same : reader ≡ stopped.reader = let opened = stopped.opened in cc (opened, at) in
+    inr (stopped.part text (subst (λ q. remaining q ≡ Some text) same gives))
 
 -- what was printed, whichever way it ended
 pub printed_of : {K R : Type 0} (k : keep.Ghosts K) (remaining : R → Option (List ℕ)) (by : Lister)
@@ -273,11 +298,85 @@ pub printed_of : {K R : Type 0} (k : keep.Ghosts K) (remaining : R → Option (L
     → IfOk r (λ report. (reader : R) → lots ≡ Ok reader → (text : List ℕ) → remaining reader ≡ Some text
     → HasDealt k.content k.is_failed k.is_honest k.may_leave (λ q. q ≡ last) by text before after given
     report)
-    → IfErr r (λ fault. (reader : R) → lots ≡ Ok reader → (text : List ℕ)
-    → remaining reader ≡ Some text → IsDealtPart k by text before after given fault last)
+    → IfErr r (HasFault k remaining lots by before after given last)
     → (reader : R) → lots ≡ Ok reader → (text : List ℕ) → remaining reader ≡ Some text
     → HasPrinted k by text before after given
-printed_of k remaining by given last lots before after (Ok report) listed part reader at text gives =
+printed_of k remaining by given last lots before after (Ok report) listed failed reader at text gives =
     (last, inl (report, listed reader at text gives))
-printed_of k remaining by given last lots before after (Err fault) listed part reader at text gives =
-    (last, inr (fault, part reader at text gives))
+printed_of k remaining by given last lots before after (Err fault) listed failed reader at text gives =
+    (last, inr (fault, part_of k remaining by given last lots before after fault failed reader at text gives))
+
+-- ---- what the run of an import tells
+
+opened_of : {T E : Type 0} (r : Result T E) → IsOk r → (x : T) × (r ≡ Ok x)
+opened_of (Ok x) done = (x, refl)
+opened_of (Err e) done = absurd cc
+
+-- a fault of the rows is told before one of the end
+pub first_told : {T : Type 0} (Told : TaskFault → Type 0) (r s : Result T TaskFault) (fault : TaskFault)
+    → r ≡ Err fault → IfErr s (λ e. r ≡ Err e) → Told fault → IfErr s Told
+first_told Told r (Ok x) fault is first told = tt
+first_told Told r (Err e) fault is first told =
+    let same : fault ≡ e = cc (is, first) in subst Told same told
+
+-- and else that of the end
+pub end_told : {T : Type 0} (Told : TaskFault → Type 0) (s : Result T TaskFault)
+    (ended : Result (Unit {0}) KeepFault) (fault : TaskFault)
+    → (s ≡ Err fault) ⊎ IsEndFault ended fault → Told fault
+    → IsOk s → IfErr ended (λ kept. Told (fault_of_keep kept))
+end_told Told (Err e) ended fault why told opened = absurd cc
+end_told Told (Ok x) (Ok u) fault why told opened = tt
+end_told Told (Ok x) (Err e) fault (inl is) told opened = absurd cc
+end_told Told (Ok x) (Err e) fault (inr (kept, gave, is)) told opened =
+    let same : fault ≡ fault_of_keep e = cc (gave, is) in subst Told same told
+
+pub none_told : {T E : Type 0} (P : E → Type 0) (r : Result T E) → IsOk r → IfErr r P
+none_told P (Ok x) done = tt
+none_told P (Err e) done = absurd cc
+
+module _ {K L R : Type 0} (k : keep.Ghosts K) (remaining : R → Option (List ℕ)) (lots : Result R TaskFault)
+    (is_ended is_left : K → L → Type 0) (by : Lister) (before after : Option (List ℕ)) (given kept : K)
+    (left : L) where
+  -- an import that came to its end, over a keep of which that is so
+  whole : (P : K → Type 0) (report : Imported) → P kept → IsOk lots
+      → HasTaken k.content k.is_failed k.is_honest k.may_leave (λ q. q ≡ kept) by given
+      → ((reader : R) → lots ≡ Ok reader → (text : List ℕ) → remaining reader ≡ Some text
+      → HasDealt k.content k.is_failed k.is_honest k.may_leave (λ q. q ≡ kept) by text before after given
+      report)
+      → IsWhole k remaining lots P by before after given report
+  whole P report so opened house rows =
+      let found = opened_of lots opened in
+      record {
+        reader = found.0;
+        opened = found.1;
+        house = taken_so k.content k.is_failed k.is_honest k.may_leave P by given kept so house;
+        dealt = λ text gives. dealt_so k.content k.is_failed k.is_honest k.may_leave P by text before after
+            given kept report so (rows found.0 found.1 text gives);
+      }
+
+  pub import_told : {Quiet : Type 0} {Told : TaskFault → Type 0} (listed : Result Imported TaskFault)
+      (ended : Result (Unit {0}) KeepFault)
+      → IfOk listed (λ report. (reader : R) → lots ≡ Ok reader → (text : List ℕ)
+      → remaining reader ≡ Some text
+      → HasDealt k.content k.is_failed k.is_honest k.may_leave (λ q. q ≡ kept) by text before after given
+      report)
+      → OnOk listed (IsOk lots)
+      → OnOk listed (HasTaken k.content k.is_failed k.is_honest k.may_leave (λ q. q ≡ kept) by given)
+      → IfErr listed (HasFault k remaining lots by before after given kept)
+      → OnOk ended (is_ended kept left) → OnErr ended (is_left kept left)
+      → (IsOk ended → IfOk listed (λ report. (report.refused ≢ 0) × Quiet))
+      → IfErr listed Told → (IsOk listed → IfErr ended (λ end. Told (fault_of_keep end)))
+      → (Quiet × HasRefused k remaining lots (λ q. is_ended q left) by before after given)
+      ⊎ ((fault : TaskFault)
+      × IsUnimported k remaining lots is_ended is_left by before after given left fault × Told fault)
+  import_told (Ok report) (Ok u) rows opened house failed done undone refused told end_is =
+      let (some, quiet) = refused refl in
+      inl (quiet, (report, some, whole (λ q. is_ended q left) report done opened house rows))
+  import_told (Ok report) (Err e) rows opened house failed done undone refused told end_is =
+      inr (
+        fault_of_keep e,
+        inr (report, (e, refl), whole (λ q. is_left q left) report undone opened house rows),
+        end_is refl,
+      )
+  import_told (Err fault) ended rows opened house failed done undone refused told end_is =
+      inr (fault, inl (kept, either_end ended done undone, failed), told)

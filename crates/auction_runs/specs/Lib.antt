@@ -1,4 +1,5 @@
 pub mod Audited
+pub mod Begun
 pub mod Faults
 pub mod Inquired
 pub mod Lines

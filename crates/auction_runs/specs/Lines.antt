@@ -1,5 +1,5 @@
 -- The lines on standard error.
-use Rattle.std.specs.Prelude.{◌≡◌, ℕ, List, [], ◌∷◌, false, Option, Some, None, ◌++◌, codes, decimal}
+use Rattle.std.specs.Prelude.{◌≡◌, ◌⊎◌, ℕ, List, [], ◌∷◌, Bool, true, false, Option, Some, None, ◌++◌, codes, decimal}
 use Rattle.std.specs.Io.KnownBytes.{Appends}
 use Rattle.device.specs.Given.{AppendsBeginning}
 use Rattle.device.specs.declared.sink.Sink as sink
@@ -66,3 +66,12 @@ pub record IsTold {W : Type 0} (w : sink.Ghosts W) (old new : W) (fault : TaskFa
 abbrev pub IsReported : {W : Type 0} → sink.Ghosts W → (TaskFault → Type 0) → W → W → ℕ → Type 0
 IsReported w MayHave old new status = (status ≡ 0 → new ≡ old)
     × (status ≡ 1 → (fault : TaskFault) × MayHave fault × IsTold w old new fault)
+
+-- by the exit status of a run that finds something out: 0 where it found that it is so, and 1 where
+-- it found that it isn't, each with nothing written; or the line of a fault that it may have, with
+-- status 1
+abbrev pub TellsFinding : {W : Type 0} → sink.Ghosts W → (Bool → Type 0) → (TaskFault → Type 0)
+    → W → W → ℕ → Type 0
+TellsFinding w Found MayHave old new status = (status ≡ 0 → Found true × (new ≡ old))
+    × (status ≡ 1 → (Found false × (new ≡ old))
+    ⊎ ((fault : TaskFault) × MayHave fault × IsTold w old new fault))

@@ -1,8 +1,9 @@
 -- What an import does to a house, and what it prints.
-use Rattle.std.specs.Prelude.{◌≡◌, ◌≢◌, ◌⊎◌, ◌++◌, ℕ, List, [], Bool, true, false, Option, is_some}
+use Rattle.std.specs.Prelude.{◌≡◌, ◌≢◌, ◌⊎◌, ◌↔◌, ◌++◌, ℕ, List, [], Bool, true, false, Option, Some, Result, Ok, Err, is_some}
 use Rattle.std.specs.Io.KnownBytes.{Appends, Keeps}
 use Rattle.std.specs.List.{FoldsTo}
-use Rattle.house_rows.specs.Keeping.{IsRead}
+use Rattle.house_rows.specs.Answers.{Reads}
+use Rattle.house_rows.specs.Keeping.{AreSound, IsRead}
 use Rattle.house_rows.specs.Pages.{member_at}
 use Rattle.house_rows.specs.Tables.{Tables}
 use Rattle.house_rows.specs.declared.keep.Keep as keep
@@ -15,13 +16,14 @@ use Rattle.office.specs.declared.outcome.Outcome.TheVariants.{Refused}
 use Rattle.office.specs.declared.tally.Imported.{Imported}
 use Rattle.settle.specs.Zoned.{IsZoneOf}
 use Rattle.settle.specs.declared.zone.Zone.{Zone}
-use Rattle.site.specs.Replies.{IsStep}
+use Rattle.site.specs.Replies.{IsReadable, IsStep}
 use Rattle.site_request.specs.declared.asked.Asked.{Asked}
 use Rattle.steps.specs.Reading.{records_of}
-use Rattle.auction_runs.specs.Faults.{fault_of_import}
+use Rattle.auction_runs.specs.Begun.{IsUnbegun}
+use Rattle.auction_runs.specs.Faults.{IsOfKeep, fault_of_import}
 use Rattle.auction_runs.specs.Over.{IsOver}
 use Rattle.auction_runs.specs.declared.fault.TaskFault.{TaskFault}
-use Rattle.auction_runs.specs.declared.fault.TaskFault.TheVariants.{Write}
+use Rattle.auction_runs.specs.declared.fault.TaskFault.TheVariants.{Damaged, Member, Store, Write}
 
 -- the keep was asked whether the member is registered, who is
 pub record IsKnown {K : Type 0} (content : K → Tables) (is_failed : K → Bool)
@@ -131,3 +133,86 @@ abbrev pub HasPrinted : {K : Type 0} → keep.Ghosts K → Lister → List ℕ �
 HasPrinted {K} k by text before after given = (last : K)
     × (HasDealtAll k by text before after given last
     ⊎ ((fault : TaskFault) × IsDealtPart k by text before after given fault last))
+
+-- ---- why a run of an import has a fault
+
+-- why a keep whose zone can be read finds no member: nobody has its number, or it reported a fault,
+-- Store exactly where it has failed, and never Damaged over sound tables
+pub record IsUnfound {K : Type 0} (k : keep.Ghosts K) (member : ℕ) (given last : K)
+    (fault : TaskFault) : Type 0 where
+  pub zone : k.is_honest given → IsReadable (k.content given).settings.zone
+  pub reported : (fault ≡ Member) ⊎ IsOfKeep fault
+  pub store : (fault ≡ Store) ↔ (k.is_failed last ≡ true)
+  pub damaged : k.is_honest last → AreSound (k.content given) → fault ≢ Damaged
+  pub nobody : k.is_honest last → fault ≡ Member
+      → is_some (member_at (k.content given).members member) ≡ false
+
+-- why nothing can be listed for a member: no site can be begun over the keep, or it finds no member
+abbrev pub IsUnready : {K : Type 0} → keep.Ghosts K → ℕ → K → K → TaskFault → Type 0
+IsUnready k member given last fault =
+    IsUnbegun (k.is_honest last) (k.is_failed last) (k.content last) fault
+    ⊎ IsUnfound k member given last fault
+
+-- the zone can be read and the member is known, but the lot file could not be opened
+pub record HasNoLots {K R : Type 0} (k : keep.Ghosts K) (lots : Result R TaskFault) (member : ℕ)
+    (given last : K) (fault : TaskFault) : Type 0 where
+  pub zone : k.is_honest given → IsReadable (k.content given).settings.zone
+  pub known : IsKnown k.content k.is_failed k.is_honest k.may_leave member given last
+  pub unopened : lots ≡ Err fault
+
+-- why an import was not started, over a keep that was only read
+pub record IsUnstarted {K R : Type 0} (k : keep.Ghosts K) (lots : Result R TaskFault) (member : ℕ)
+    (given last : K) (fault : TaskFault) : Type 0 where
+  pub read : Reads k given last
+  pub why : IsUnready k member given last fault ⊎ HasNoLots k lots member given last fault
+
+-- an import was started and ended with this fault: where the bytes of its file are known, some rows
+-- were dealt with, or all were and could not be handed on
+pub record HasStopped {K R : Type 0} (k : keep.Ghosts K) (remaining : R → Option (List ℕ))
+    (lots : Result R TaskFault) (by : Lister) (before after : Option (List ℕ)) (given last : K)
+    (fault : TaskFault) : Type 0 where
+  pub reader : R
+  pub opened : lots ≡ Ok reader
+  pub asked : K
+  pub member : IsKnown k.content k.is_failed k.is_honest k.may_leave by.member given asked
+  pub importing : ImportFault
+  pub report : fault ≡ fault_of_import importing
+  pub part : (text : List ℕ) → remaining reader ≡ Some text
+      → HasDealtSome k by text before after given fault last
+      ⊎ ((fault ≡ Write) × HasDealtAll k by text before after given last)
+
+-- an import has a fault: it was not started and nothing was printed, or it was and ended with it
+abbrev pub HasFault : {K R : Type 0} → keep.Ghosts K → (R → Option (List ℕ)) → Result R TaskFault
+    → Lister → Option (List ℕ) → Option (List ℕ) → K → K → TaskFault → Type 0
+HasFault k remaining lots by before after given last fault =
+    (Keeps before after × IsUnstarted k lots by.member given last fault)
+    ⊎ HasStopped k remaining lots by before after given last fault
+
+-- an import came to its end with these counts: where the bytes of its file are known, all rows were
+-- dealt with
+pub record IsWhole {K R : Type 0} (k : keep.Ghosts K) (remaining : R → Option (List ℕ))
+    (lots : Result R TaskFault) (is_ended : K → Type 0) (by : Lister)
+    (before after : Option (List ℕ)) (given : K) (report : Imported) : Type 0 where
+  pub reader : R
+  pub opened : lots ≡ Ok reader
+  pub house : HasTaken k.content k.is_failed k.is_honest k.may_leave is_ended by given
+  pub dealt : (text : List ℕ) → remaining reader ≡ Some text
+      → HasDealt k.content k.is_failed k.is_honest k.may_leave is_ended by text before after given
+      report
+
+-- and some row was refused
+abbrev pub HasRefused : {K R : Type 0} → keep.Ghosts K → (R → Option (List ℕ)) → Result R TaskFault
+    → (K → Type 0) → Lister → Option (List ℕ) → Option (List ℕ) → K → Type 0
+HasRefused k remaining lots is_ended by before after given = (report : Imported)
+    × (report.refused ≢ 0) × IsWhole k remaining lots is_ended by before after given report
+
+-- why a run has a fault, by what is left of the keep: its import has it, or that came to its end
+-- and the keep's end reported it
+abbrev pub IsUnimported : {K L R : Type 0} → keep.Ghosts K → (R → Option (List ℕ))
+    → Result R TaskFault → (K → L → Type 0) → (K → L → Type 0) → Lister → Option (List ℕ)
+    → Option (List ℕ) → K → L → TaskFault → Type 0
+IsUnimported {K} k remaining lots is_ended is_left by before after given left fault =
+    ((last : K) × IsOver is_ended is_left last left
+    × HasFault k remaining lots by before after given last fault)
+    ⊎ ((report : Imported) × IsOfKeep fault
+    × IsWhole k remaining lots (λ last. is_left last left) by before after given report)

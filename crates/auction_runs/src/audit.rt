@@ -1,9 +1,11 @@
 //! `audit`: two runs of messages, compared as one member sees them.
-ghost use Rattle.std.specs.Prelude.{◌≡◌, ◌≤◌, ◌↔◌, true, Ok, IfErr, IfOk, OnOk, map};
+ghost use Rattle.std.specs.Prelude.{◌≡◌, ◌≤◌, ◌↔◌, ◌⊎◌, true, false, Ok, IfErr, IfOk, IsOk, OnOk, map};
 ghost use Rattle.std.specs.Io.KnownBytes.{Appends};
 ghost use Rattle.auction_runs.specs.Audited.{Finds, HasAudited, HasMessages, HasReported};
 ghost use Rattle.auction_runs.specs.Audited.{IsReported, IsUncompared, IsUnread, IsUnreported};
+ghost use Rattle.auction_runs.specs.Begun.{IsUnbegun};
 ghost use Rattle.auction_runs.specs.Faults.{IsOfKeep, fault_of_messages};
+ghost use Rattle.auction_runs.specs.Lines.{IsTold, TellsFinding};
 ghost use Rattle.auction_runs.specs.Printed.{apart_line, equal_line};
 ghost use Rattle.settle.specs.Zoned.{IsZoneOf};
 ghost use Rattle.site.specs.Replies.{zone_of};
@@ -73,7 +75,12 @@ pub fn both_begun<K: Keep + Drop>(
     ensures right { IfOk result (λ sites. keep_of sites.1 ≡ right) }
     ensures zone { K.is_honest left → IfOk result (λ sites.
         IsZoneOf (K.content left).settings.zone (zone_of sites.0)) }
+    ensures works { OnOk result
+        ((K.is_failed left ≡ false) × (K.is_failed right ≡ false)) }
     ensures fault { IfErr result IsOfKeep }
+    ensures cause { IfErr result (λ fault.
+        IsUnbegun (K.is_honest left) (K.is_failed left) (K.content left) fault
+        ⊎ IsUnbegun (K.is_honest right) (K.is_failed right) (K.content right) fault) }
 {
     let left_site = site_over(alloc, left)?;
     match site_over(alloc, right) {
@@ -192,9 +199,11 @@ pub fn report_comparison<L: Source + Drop, R: Source + Drop, W: Write, K: Keep +
 }
 
 /// The exit status for what was found: 0 where the runs are equal, and else 1. A fault is written
-/// in its line.
+/// in its line, and nothing is where there is none.
 pub fn status<E: Sink>(errors: &mut E, equal: Result<bool, TaskFault>) -> u8
     ensures equal { (result ≡ 0) ↔ (equal ≡ Ok true) }
+    ensures quiet { IsOk equal → errors.new ≡ errors.old }
+    ensures told { IfErr equal (IsTold E.Sink errors.old errors.new) }
     ensures within { result ≤ 1 }
 {
     match equal {
@@ -219,6 +228,10 @@ pub fn audit_run<L: Source + Drop, R: Source + Drop, W: Write, E: Sink, K: Keep 
     ensures equal { result ≡ 0
         → HasReported houses K.content K.is_failed K.is_honest L.left R.left caller left right
         (W.contents output.old) (W.contents output.new) true }
+    ensures told { TellsFinding E.Sink
+        (HasReported houses K.content K.is_failed K.is_honest L.left R.left caller left right
+        (W.contents output.old) (W.contents output.new))
+        (IsUnreported L.left R.left left right) errors.old errors.new result }
     ensures within { result ≤ 1 }
 {
     status(

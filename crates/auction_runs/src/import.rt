@@ -1,10 +1,11 @@
 //! `import`: the rows of a lot file, listed in a house.
-ghost use Rattle.std.specs.Prelude.{◌≡◌, ◌≤◌, ◌⊎◌, ◌↔◌, ℕ, List, Err, Ok, Some, IfErr, IfOk, IsOk, OnOk};
+ghost use Rattle.std.specs.Prelude.{◌≡◌, ◌≢◌, ◌≤◌, ◌⊎◌, ◌↔◌, ℕ, List, Err, Ok, Some, IfErr, IfOk, IsOk, OnOk};
 ghost use Rattle.std.specs.Io.KnownBytes.{Keeps};
-ghost use Rattle.auction_runs.specs.Faults.{fault_of_import};
+ghost use Rattle.auction_runs.specs.Faults.{fault_of_import, fault_of_keep};
 ghost use Rattle.auction_runs.specs.Lines.{IsTold};
-ghost use Rattle.auction_runs.specs.Listed.{HasAll, HasDealt, HasOrderedOnly, HasPrinted, HasTaken};
-ghost use Rattle.auction_runs.specs.Listed.{IsDealtPart, IsKnown, IsOrderedOver};
+ghost use Rattle.auction_runs.specs.Listed.{HasAll, HasDealt, HasFault, HasOrderedOnly, HasPrinted};
+ghost use Rattle.auction_runs.specs.Listed.{HasRefused, HasTaken, IsKnown, IsOrderedOver, IsUnimported};
+ghost use Rattle.auction_runs.specs.Listed.{IsUnready, IsUnstarted};
 ghost use Rattle.auction_runs.specs.declared.fault.TaskFault.{TaskFault as ReportedFault};
 ghost use Rattle.office.specs.declared.fault.ImportFault.{ImportFault as TheFault};
 ghost use Rattle.office.specs.declared.tally.Imported.{Imported as TheReport};
@@ -39,8 +40,22 @@ fn hand_on<W: Write>(
     Ok(report)
 }
 
-// The lot file, once the kept zone can be read and the lister is known: so what is wrong with a
-// house is reported before what else is asked of it.
+// Whether the kept zone can be read, and the lister is known.
+fn check_house<K: Keep>(keep: &mut K, member: u64) -> Result<(), TaskFault>
+    ensures zone { K.is_honest keep.old → OnOk result
+        (IsReadable (K.content keep.old).settings.zone) }
+    ensures known { OnOk result
+        (IsKnown K.content K.is_failed K.is_honest K.may_leave member keep.old keep.new) }
+    ensures cause { IfErr result (IsUnready K.Keep member keep.old keep.new) }
+    ensures read { Reads K.Keep keep.old keep.new }
+{
+    check_zone(keep)?;
+    check_member(keep, member)?;
+    Ok(())
+}
+
+// The lot file, once that is so: what is wrong with a house is reported before what else is asked
+// of it.
 fn check_import<R: Drop, K: Keep>(
     keep: &mut K,
     lots: Result<R, TaskFault>,
@@ -51,10 +66,10 @@ fn check_import<R: Drop, K: Keep>(
     ensures known { OnOk result
         (IsKnown K.content K.is_failed K.is_honest K.may_leave member keep.old keep.new) }
     ensures same { IfOk result (λ reader. lots ≡ Ok reader) }
+    ensures cause { IfErr result (IsUnstarted K.Keep lots member keep.old keep.new) }
     ensures read { Reads K.Keep keep.old keep.new }
 {
-    check_zone(keep)?;
-    check_member(keep, member)?;
+    check_house(keep, member)?;
     lots
 }
 
@@ -70,9 +85,8 @@ fn list_all<R: Read + Drop, W: Write, K: Keep + Drop>(
         → R.remaining reader ≡ Some text
         → HasDealt K.content K.is_failed K.is_honest K.may_leave (λ last. last ≡ result.1) by text
         (W.contents output.old) (W.contents output.new) keep report) }
-    ensures part { IfErr result.0 (λ fault. (reader : R) → lots ≡ Ok reader → (text : List ℕ)
-        → R.remaining reader ≡ Some text → IsDealtPart K.Keep by text
-        (W.contents output.old) (W.contents output.new) keep fault result.1) }
+    ensures fault { IfErr result.0 (HasFault K.Keep R.remaining lots by
+        (W.contents output.old) (W.contents output.new) keep result.1) }
     ensures open { OnOk result.0 (IsOk lots) }
     ensures taken { OnOk result.0
         (HasTaken K.content K.is_failed K.is_honest K.may_leave (λ last. last ≡ result.1) by keep) }
@@ -110,8 +124,11 @@ fn finish<E: Sink>(
     ensures listed { result ≡ 0 → IsOk listed }
     ensures ended { result ≡ 0 → IsOk ended }
     ensures quiet { result ≡ 0 → errors.new ≡ errors.old }
-    ensures told { result ≡ 1 → (errors.new ≡ errors.old)
-        ⊎ ((fault : ReportedFault) × IsTold E.Sink errors.old errors.new fault) }
+    ensures refused { result ≡ 1 → IsOk ended → IfOk listed (λ report.
+        (report.refused ≢ 0) × (errors.new ≡ errors.old)) }
+    ensures told { IfErr listed (IsTold E.Sink errors.old errors.new) }
+    ensures end_told { IsOk listed → IfErr ended (λ kept.
+        IsTold E.Sink errors.old errors.new (fault_of_keep kept)) }
     ensures within { result ≤ 1 }
 {
     match outcome_after_end(listed, ended) {
@@ -143,9 +160,14 @@ pub fn import_run<R: Read + Drop, W: Write, E: Sink, K: Keep + Drop + Ends>(
     ensures ended { result.0 ≡ 0 → HasTaken K.content K.is_failed K.is_honest K.may_leave
         (λ last. K.is_ended last result.1) by keep }
     ensures quiet { result.0 ≡ 0 → errors.new ≡ errors.old }
-    // Refused rows are told by their lines alone.
-    ensures told { result.0 ≡ 1 → (errors.new ≡ errors.old)
-        ⊎ ((fault : ReportedFault) × IsTold E.Sink errors.old errors.new fault) }
+    // Refused rows are told by their lines alone, and a fault has its cause.
+    ensures told { result.0 ≡ 1
+        → ((errors.new ≡ errors.old) × HasRefused K.Keep R.remaining lots
+        (λ last. K.is_ended last result.1) by
+        (W.contents output.old) (W.contents output.new) keep)
+        ⊎ ((fault : ReportedFault) × IsUnimported K.Keep R.remaining lots K.is_ended K.is_left by
+        (W.contents output.old) (W.contents output.new) keep result.1 fault
+        × IsTold E.Sink errors.old errors.new fault) }
     ensures over { IsOrderedOver K.content K.is_failed K.is_honest K.may_leave K.is_ended K.is_left
         by keep result.1 }
     ensures within { result.0 ≤ 1 }

@@ -1,7 +1,8 @@
 //! `serve`: the replies to the messages of connections, one connection after the other.
 ghost use Rattle.auction_runs.specs.Lines.{IsReported, IsTold};
-ghost use Rattle.std.specs.Prelude.{◌≡◌, ◌≤◌, ◌⊎◌, Err, IfErr, IfOk, IsOk, OnOk};
+ghost use Rattle.std.specs.Prelude.{◌≡◌, ◌≤◌, ◌⊎◌, Err, IfErr, IfOk, IsOk, OnOk, false};
 ghost use Rattle.std.specs.Io.KnownBytes.{Appends};
+ghost use Rattle.auction_runs.specs.Begun.{IsUnbegun};
 ghost use Rattle.auction_runs.specs.Faults.{IsOfEnd, IsOfEnded, IsOfKeep};
 ghost use Rattle.auction_runs.specs.Over.{IsOver};
 ghost use Rattle.auction_runs.specs.Printed.{listening, served};
@@ -24,11 +25,15 @@ use std::io::Write;
 pub const MOST: u64 = 10_000;
 
 /// The site over a keep. After an error the keep is given back.
+#[tactic(auto, using(crate::proofs::Begun::unbegun, crate::proofs::Begun::works))]
 pub fn begin_site<K: Keep + Drop>(alloc: Global, keep: K) -> Result<Site<K>, (TaskFault, K)>
     ensures keep { IfOk result (λ site. keep_of site ≡ keep) }
     ensures zone { K.is_honest keep → IfOk result (λ site.
         IsZoneOf (K.content keep).settings.zone (zone_of site)) }
+    ensures works { OnOk result (K.is_failed keep ≡ false) }
     ensures fault { IfErr result (λ e. IsOfKeep e.0) }
+    ensures cause { IfErr result (λ e.
+        IsUnbegun (K.is_honest keep) (K.is_failed keep) (K.content keep) e.0) }
     ensures back { IfErr result (λ e. e.1 ≡ keep) }
 {
     match Site::new(alloc, keep) {
@@ -42,7 +47,10 @@ pub fn site_over<K: Keep + Drop>(alloc: Global, keep: K) -> Result<Site<K>, Task
     ensures keep { IfOk result (λ site. keep_of site ≡ keep) }
     ensures zone { K.is_honest keep → IfOk result (λ site.
         IsZoneOf (K.content keep).settings.zone (zone_of site)) }
+    ensures works { OnOk result (K.is_failed keep ≡ false) }
     ensures fault { IfErr result IsOfKeep }
+    ensures cause { IfErr result
+        (IsUnbegun (K.is_honest keep) (K.is_failed keep) (K.content keep)) }
 {
     match begin_site(alloc, keep) {
         Ok(site) => Ok(site),

@@ -1,6 +1,7 @@
 //! `surplus`: whether it shows to another member how much higher a covered bid is sealed.
 ghost use Rattle.std.specs.Prelude.{◌≡◌, ◌≤◌, true, IfErr, IfOk, OnOk, map};
 ghost use Rattle.std.specs.Io.KnownBytes.{Appends};
+ghost use Rattle.auction_runs.specs.Lines.{TellsFinding};
 ghost use Rattle.auction_runs.specs.Printed.{not_covered_line, same_line};
 ghost use Rattle.auction_runs.specs.Raised.{HasShown, HasTried, IsShown, IsUnshown, IsUntried, TellsOf};
 ghost use Rattle.site.specs.Replies.{zone_of};
@@ -149,6 +150,10 @@ pub fn surplus_run<S: Source + Drop, W: Write, E: Sink, K: Keep + Drop>(
     ensures covered { result ≡ 0
         → HasShown houses K.content K.is_failed K.is_honest S.left raise trial
         (W.contents output.old) (W.contents output.new) true }
+    ensures told { TellsFinding E.Sink
+        (HasShown houses K.content K.is_failed K.is_honest S.left raise trial
+        (W.contents output.old) (W.contents output.new))
+        (IsUnshown S.left trial) errors.old errors.new result }
     ensures within { result ≤ 1 }
 {
     status(errors, report_surplus(alloc, houses, trial, raise, output))

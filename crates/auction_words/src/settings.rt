@@ -68,7 +68,8 @@ fn zone(alloc: Global, rule: &str) -> Result<Text, SettingsFault>
 
 // The same table once more.
 fn same_bands(alloc: Global, bands: &Bands) -> Result<Bands, SettingsFault>
-    ensures { IfOk result (λ same. same ≡ bands.now) }
+    ensures same { IfOk result (λ same. same ≡ bands.now) }
+    ensures memory { IfErr result (λ fault. fault ≡ SettingsFault.Bands BandsFault.Memory) }
 {
     match Bands::of_rows(alloc, bands.rows()) {
         Ok(same) => Ok(same),
@@ -76,9 +77,11 @@ fn same_bands(alloc: Global, bands: &Bands) -> Result<Bands, SettingsFault>
     }
 }
 
-/// The same once more, for a second house.
+/// The same once more, for a second house. Only memory is refused.
 pub fn same_settings(alloc: Global, settings: &Settings) -> Result<Settings, SettingsFault>
-    ensures { IfOk result (λ same. same ≡ settings.now) }
+    ensures same { IfOk result (λ same. same ≡ settings.now) }
+    ensures memory { IfErr result (λ fault. (fault ≡ SettingsFault.Memory)
+        ⊎ (fault ≡ SettingsFault.Bands BandsFault.Memory)) }
 {
     Ok(Settings {
         bands: same_bands(alloc, &settings.bands)?,

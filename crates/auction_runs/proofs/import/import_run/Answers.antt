@@ -1,5 +1,5 @@
 use Rattle.auction_runs.proofs.Outcomes.{both, where_done}
-use Rattle.auction_runs.proofs.Rows.{dealt_so, has_all, printed_of, taken_so}
+use Rattle.auction_runs.proofs.Rows.{dealt_so, has_all, import_told, printed_of, taken_so}
 use Rattle.auction_runs.proofs.import.import_run.Goals as goal
 
 pub returns-clause-ended : goal.returns-clause-ended
@@ -30,4 +30,14 @@ pub returns-clause-printed : goal.returns-clause-printed
 returns-clause-printed g c = printed_of g.K.Keep g.R.Read.remaining c.args.by c.args.keep
     c.list_all-listed.result.1 c.args.lots (g.W.Write.contents c.args.output.now)
     (g.W.Write.contents c.list_all-listed.new.output) c.list_all-listed.result.0
-    c.list_all-listed.ensures.listed c.list_all-listed.ensures.part
+    c.list_all-listed.ensures.listed c.list_all-listed.ensures.fault
+
+pub returns-clause-told : goal.returns-clause-told
+returns-clause-told g c =
+    let listed = c.list_all-listed in
+    let end = c.end-ended in
+    λ e. import_told g.K.Keep g.R.Read.remaining c.args.lots g.K.Ends.is_ended g.K.Ends.is_left c.args.by
+    (g.W.Write.contents c.args.output.now) (g.W.Write.contents listed.new.output) c.args.keep
+    listed.result.1 end.result.1 listed.result.0 end.result.0 listed.ensures.listed listed.ensures.open
+    listed.ensures.taken listed.ensures.fault end.ensures.ended end.ensures.left
+    (c.finish.ensures.refused e) c.finish.ensures.told c.finish.ensures.end_told

@@ -1,8 +1,14 @@
 use Rattle.std.proofs.Common.{true}
-use Rattle.auction_runs.proofs.Outcomes.{of_value}
+use Rattle.auction_runs.proofs.Outcomes.{finding_told, of_value}
 use Rattle.auction_runs.proofs.surplus.surplus_run.Goals as goal
 
 pub returns-clause-covered : goal.returns-clause-covered
 returns-clause-covered g c =
     λ e. of_value _ c.report_surplus.result true (c.status.ensures.equal.0 e)
     c.report_surplus.ensures.report
+
+pub returns-clause-told : goal.returns-clause-told
+returns-clause-told g c =
+    let run = c.status.ensures in
+    finding_told g.E.Sink _ _ _ _ _ c.report_surplus.result run.equal run.quiet run.told
+    c.report_surplus.ensures.report c.report_surplus.ensures.fault
