@@ -6,7 +6,8 @@ city=$1
 
 for _ in $(seq 60); do
     systemctl reset-failed "auction*@$city.*" 2> /dev/null || true
-    systemctl start "auction@$city.service"
+    # A start that systemd refuses is a try that failed.
+    systemctl start "auction@$city.service" || true
     sleep 1
     if systemctl is-active --quiet "auction@$city.service" && [ "$(systemctl show -P SubState "auction@$city.service")" = running ]; then
         sh /usr/share/auction/setup.sh "$city" "$(cat "/etc/auction/$city/host")"

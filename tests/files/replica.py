@@ -16,6 +16,7 @@ import json
 import os
 import pathlib
 import shutil
+import signal
 import subprocess
 import sys
 import tempfile
@@ -68,9 +69,19 @@ def make_volume(kept, disk, **settings):
               (0, "fuse.glusterfs"))
 
 
-def init(machine, program):
+def made_and_served(machine, program):
+    """The server of a new house. Where who made it has only just ended, the volume may still have the lock, so it is begun until
+    it listens, as the service begins it."""
     result = machine.runs(program, "init", PLACE / "house", "--bands", ROOT / "examples" / "bands.csv", *SETTINGS)
     check("made", result.returncode, 0)
+    server, seconds = machine.opened(program)
+    print(f"opened {seconds:.1f} s after it was made")
+    return server
+
+
+def ended(server):
+    """How a server ends by itself: its status, and what it wrote to standard error."""
+    return server.wait(PATIENCE), server.stderr.read()
 
 
 def all_are_there(machine, acked, folder):
@@ -110,7 +121,7 @@ def the_server_dies(program, kept, acked, folder, what):
     print(f"{what}: opened on another after {seconds:.1f} s")
     check("bids go on at another", told("at another", kept[1].bids(acked, 3))["fault"], None)
     kept[1].runs("pkill", "-x", "auction")
-    server.wait()
+    server.wait(PATIENCE)
     print(f"{what}: {all_are_there(kept[1], acked, folder)} answered bids, each of them looked for")
 
 
@@ -120,14 +131,12 @@ def killed(program, folder, **settings):
     disk, acked = folder / what.replace(" ", "-").replace(",", ""), folder / f"acked {what}"
     with machines(disk) as kept:
         make_volume(kept, disk, **settings)
-        init(kept[0], program)
-        server = kept[0].serve(program)
-        check("listens", server.stdout.readline(), "listening\n")
-        second = kept[1].serve(program)
-        check("a second server", (second.wait(), second.stderr.read()), (1, "auction: file: Store\n"))
+        first = made_and_served(kept[0], program)
+        check("a second server", ended(kept[1].serve(program)), (1, "auction: file: Store\n"))
         check("bids", told("three machines", kept[0].bids(acked, PERIOD))["fault"], None)
         a_keeper_dies(kept, acked)
         the_server_dies(program, kept, acked, folder, what)
+        check("the first ended with its machine", first.wait(PATIENCE), -signal.SIGKILL)
 
 
 def cut_off(program, folder):
@@ -135,9 +144,7 @@ def cut_off(program, folder):
     disk, acked, old = folder / "cut", folder / "acked cut", folder / "acked old"
     with machines(disk) as kept:
         make_volume(kept, disk)
-        init(kept[0], program)
-        server = kept[0].serve(program)
-        check("listens", server.stdout.readline(), "listening\n")
+        server = made_and_served(kept[0], program)
         client = kept[0].bids(acked, 60)
         await_bid(acked)
         time.sleep(PERIOD / 2)
@@ -150,9 +157,9 @@ def cut_off(program, folder):
         check("none was taken after the other opened", len(acked.read_text().splitlines()), answered)
         check("bids at the other", told("at the other", kept[1].bids(acked, 3))["fault"], None)
         kept[1].runs("pkill", "-x", "auction")
-        other.wait()
+        other.wait(PATIENCE)
         print(f"cut off: {all_are_there(kept[1], acked, folder)} answered bids, each of them looked for")
-        check("the one that is cut off has ended", (server.wait(PATIENCE), server.stderr.read()), (1, "auction: file: Store\n"))
+        check("the one that is cut off has ended", ended(server), (1, "auction: file: Store\n"))
 
 
 def main():

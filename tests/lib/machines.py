@@ -1,7 +1,9 @@
 """Machines that are namespaces of this one, on which a house is served and bid in."""
+import collections
 import contextlib
 import os
 import pathlib
+import select
 import signal
 import sqlite3
 import subprocess
@@ -13,6 +15,8 @@ from lib.places import ROOT
 from lib.sent import PATIENCE
 
 CITY, PLACE, PORT, ITEMS = "lindow", pathlib.Path("/var/lib/auction/lindow"), 8080, 50
+# How long a server may say nothing before it listens, in seconds.
+SILENCE = 30
 HOLD = "import signal, time; signal.signal(signal.SIGCHLD, signal.SIG_IGN); time.sleep(3600)"
 
 
@@ -55,14 +59,17 @@ class Machine:
         return subprocess.Popen(self.words(program, "serve", PLACE / "house", "--port", PORT, "--count", 1000),
                                 stdout=subprocess.PIPE, stderr=subprocess.PIPE, text=True)
 
-    def opened(self, program, seconds=120):
-        """Serves as soon as the house can be opened, and tells how long that took."""
-        begun = time.monotonic()
+    def opened(self, program, seconds=240):
+        """Serves as soon as the house can be opened, and tells how long that took. Who says nothing meanwhile is killed, as by the
+        watch of the service."""
+        begun, faults = time.monotonic(), collections.Counter()
         while time.monotonic() - begun < seconds:
             server = self.serve(program)
-            if server.stdout.readline() == "listening\n":
+            if first_line(server) == "listening\n":
+                print(f"not opened before: {dict(faults)}" if faults else "opened at once")
                 return server, time.monotonic() - begun
-            server.wait()
+            self.runs("pkill", "-9", "-x", "auction")
+            faults[server.communicate(timeout=PATIENCE)[1].strip() or "nothing said"] += 1
             time.sleep(0.2)
         raise TimeoutError("the house can't be opened")
 
@@ -83,6 +90,11 @@ class Machine:
         with contextlib.suppress(ProcessLookupError):
             os.kill(int(self.process), signal.SIGKILL)
         self.outer.wait()
+
+
+def first_line(server):
+    """What a server writes first, or nothing where it ends before, or has said nothing for a while."""
+    return server.stdout.readline() if select.select([server.stdout], [], [], SILENCE)[0] else ""
 
 
 def run(*words):
