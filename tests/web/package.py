@@ -14,8 +14,8 @@ those in who signed in by the browser's own window; a clock that was far ahead, 
 through, until a copy is restored, or somebody says that the clock is right; a city is taken over from a server that ends; a copy
 is taken; and the package is removed, installed again and purged. Then such a Debian that never had a house boots, and
 debian/fresh_debian.sh restores the city from the copy, whose members sign in as before. In a third one a new user does what the
-page of the gateway says, without the package. DEBIAN is the folder of that Debian; one that isn't there is made from Debian's
-archive, in some minutes, and kept. The last line is 'N checks, M wrong'.
+page of the gateway says, without the package. How many seconds an operator's steps took is printed. DEBIAN is the folder of that
+Debian; one that isn't there is made from Debian's archive, in some minutes, and kept. The last line is 'N checks, M wrong'.
 
 Promise: none
 """
@@ -228,7 +228,9 @@ def judge(text):
         exposure = printed.get(f"exposure of {unit}")
         print(f"{unit}: exposure {exposure}")
         check(f"exposure of {unit}", exposure is not None and float(exposure) < MOST_EXPOSED, True)
-    print(f"a city restored on a fresh machine in {printed.get('fresh, seconds')} s, from the boot to the last bid")
+    for name, seconds in printed.items():
+        if name.startswith("seconds of "):
+            print(f"{name.removeprefix('seconds of ')}: {seconds} s")
     if RUN.wrong():
         print(text)
 

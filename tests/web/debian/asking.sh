@@ -34,6 +34,15 @@ signed_in() {
     browse "$1" /api/me/statement/1970-01-01/1970-01-01 -b "$1.cookies" | grep -o '"member":[0-9]*'
 }
 
+# Does a step of an operator, and prints how many seconds it took.
+step() {
+    step_name=$1 step_begun=$(date +%s%N)
+    shift
+    "$@"
+    step_tenths=$((($(date +%s%N) - step_begun) / 100000000))
+    say "seconds of $step_name" "$((step_tenths / 10)).$((step_tenths % 10))"
+}
+
 # Waits until a command succeeds, for two minutes at most.
 wait_until() {
     for _ in $(seq 600); do

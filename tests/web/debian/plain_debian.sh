@@ -19,6 +19,10 @@ password_of() {
     sed -n "s/^$2 [0-9]* //p" "$1.passwords"
 }
 
+install_older() {
+    say installed "$(apt-get install -y --no-install-recommends ./older/auction_*.deb > install.log 2>&1; echo $?)"
+}
+
 set_up() {
     say "set up $1" "$(sh /usr/share/auction/setup.sh "$1" "$1.example" 2>&1 > /dev/null; echo $?)"
     {
@@ -95,7 +99,7 @@ fill_disk() {
     say "its line" "$(journalctl -u auction-queue@tarn -o cat | grep -o 'status 500 to POST /items.*: store' | sed 's/after [0-9]* ms/after/' | head -1)"
     mount -o remount,size=10m /var/lib/auction/tarn
     begun=$(date +%s)
-    wait_until 'ask tarn ana /items/1 | grep -q Atlas'
+    step "a start after a full disk" wait_until 'ask tarn ana /items/1 | grep -q Atlas'
     say "with room again" "$([ $(($(date +%s) - begun)) -lt 30 ]; echo $?)"
     say "the house said" "$(journalctl -u auction@tarn -o cat | grep -m 1 -x 'auction: file: Store')"
 }
@@ -244,14 +248,18 @@ make_older_city() {
     printf 'server {\n    auth_basic_user_file /etc/auction/fell/users;\n}\n' > /etc/auction/fell/site.conf
 }
 
+install_newer() {
+    say upgraded "$(apt-get install -y --no-install-recommends ./newer/auction_*.deb > upgrade.log 2>&1; echo $?)"
+    wait_until 'ask lindow ben /house | grep -q clock'
+}
+
 upgrade() {
     make_older_city
     for unit in auction@lindow auction-queue@lindow auction@tarn; do
         systemctl show -P MainPID "$unit" > "$unit.before"
     done
     say "header of the older package" "$(header referrer-policy)"
-    say upgraded "$(apt-get install -y --no-install-recommends ./newer/auction_*.deb > upgrade.log 2>&1; echo $?)"
-    wait_until 'ask lindow ben /house | grep -q clock'
+    step "an upgrade with three cities" install_newer
     for unit in auction@lindow auction-queue@lindow auction@tarn; do
         say "the same $unit" "$([ "$(systemctl show -P MainPID "$unit")" = "$(cat "$unit.before")" ]; echo $?)"
     done
@@ -283,6 +291,11 @@ newest() {
     echo "$newest"
 }
 
+restore_tarn() {
+    say "restored after it" "$(sh /usr/share/auction/restore_city.sh "$(newest tarn)" tarn > restored.log 2>&1; echo $?)"
+    wait_until 'ask tarn ana /house | grep -q clock'
+}
+
 clock_ahead() {
     systemctl start auction-copy@tarn
     close_ahead
@@ -290,9 +303,8 @@ clock_ahead() {
     say "a read meanwhile" "$(ask tarn ana /house -o /dev/null -w '%{http_code}')"
     wait_until 'journalctl -u auction-watch@tarn -o cat | grep -q "no command is let through"'
     say "the watch says" "$(journalctl -u auction-watch@tarn -o cat | grep -o 'no command is let through' | head -1)"
-    say "restored after it" "$(sh /usr/share/auction/restore_city.sh "$(newest tarn)" tarn > restored.log 2>&1; echo $?)"
+    step "a restore in place" restore_tarn
     cat restored.log
-    wait_until 'ask tarn ana /house | grep -q clock'
     say "a command after it" "$(command_status tarn Maps)"
 }
 
@@ -334,7 +346,7 @@ take_over() {
 
 # A copy for fresh_debian.sh, of which the timer makes one each hour.
 copy() {
-    systemctl start auction-copy@lindow
+    step "a copy" systemctl start auction-copy@lindow
     say copied "$(systemctl show -P Result auction-copy@lindow)"
     say "its age" "$(journalctl -u auction-copy@lindow -o cat | grep -o 'the newest copy is .*, [0-9]* minutes old' | sed 's/is .*,/is/')"
     say "a copy has" "$(cd "$(newest lindow)" && find . -type f | sort | tr '\n' ' ')"
@@ -354,9 +366,9 @@ remove() {
 }
 
 systemctl is-system-running --wait > /dev/null
-say installed "$(apt-get install -y --no-install-recommends ./older/auction_*.deb > install.log 2>&1; echo $?)"
-set_up lindow
-set_up tarn
+step "an installation" install_older
+step "the first city" set_up lindow
+step "another city" set_up tarn
 sign_in_and_out
 begin_to_watch
 trade
