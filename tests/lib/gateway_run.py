@@ -89,9 +89,11 @@ class Gateway:
         return ending
 
     def know_certificates(self):
-        self.tls = ssl.create_default_context()
+        # Members ask from other threads meanwhile, so the certificates are read before anybody is held to them.
+        tls = ssl.create_default_context()
         for file in self.folder.glob("houses/*/cert.pem"):
-            self.tls.load_verify_locations(file)
+            tls.load_verify_locations(file)
+        self.tls = tls
 
     def stop(self, *hosts):
         return self.script("stop.sh", self.folder, *hosts)

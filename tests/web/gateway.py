@@ -48,7 +48,7 @@ from parts.gateway_visit import visit
 
 
 def stop_and_start(gateway):
-    """What was taken is there again, also for who signed in before."""
+    """What was taken is there again, also for who signed in before. The clock may go on, since the house closes what is due."""
     pages = ["/api/items/1", "/api/house", MINE]
     before = [gateway.ask("cid", "GET", page).value for page in pages]
     check("started twice", gateway.start()[0], 1)
@@ -56,7 +56,9 @@ def stop_and_start(gateway):
     with socket.socket() as probe:
         check("nobody listens", probe.connect_ex(("127.0.0.1", gateway.port)) != 0, True)
     check("started again, without a warning", gateway.start()[::2], (0, ""))
-    check("it is all there", [gateway.ask("cid", "GET", page).value for page in pages], before)
+    after = [gateway.ask("cid", "GET", page).value for page in pages]
+    check("the clock is not turned back", after[1]["clock"] >= before[1]["clock"], True)
+    check("it is all there", [{**page, "clock": None} for page in after], [{**page, "clock": None} for page in before])
 
 
 def lists_what_ends(gateway):
