@@ -82,8 +82,8 @@ help:
 	@echo "  make mutated   on streams of spoiled messages, until MUTATED are answered, and what was accepted plainly"
 	@echo "  make twins     audits SEALED random pairs of lists that differ in what others sealed, and PAIRS that are apart,"
 	@echo "                 raises a bid in PAIRS random lists, and plays PAIRS on houses that are killed and started again"
-	@echo "  make file      makes houses in files, opens, copies, damages and upgrades them, kills who serves, and reads them with"
-	@echo "                 sqlite3"
+	@echo "  make file      makes houses in files, opens, copies, damages and upgrades them, kills who serves, reads them with"
+	@echo "                 sqlite3, and has that write them anew"
 	@echo "  make columns   spoils each column of each table, by each value or each EVERYth, and asks everything of each such house"
 	@echo "  make office    imports lot files, one of ROWS rows, and reads statements"
 	@echo "  make kills     kills who serves a house KILLS times at random moments, and who upgrades one, and looks what is in its"
@@ -235,6 +235,7 @@ file:
 	python3 tests/files/spoiled_house.py crates/auction/out/auction
 	python3 tests/files/bad_files.py crates/auction/out/auction
 	python3 tests/files/upgrades.py crates/auction/out/auction
+	python3 tests/files/other_orders.py crates/auction/out/auction $(SEED)
 
 columns:
 	python3 tests/files/spoiled_columns.py crates/auction/out/auction $(EVERY)

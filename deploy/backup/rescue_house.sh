@@ -1,7 +1,7 @@
 #!/bin/sh
-# rescue_house.sh BROKEN NEW: makes a house of all rows that SQLite still reads in a file which `auction` calls Damaged, or that was
-# compacted by VACUUM. Nobody serves the file. It stays as it is, and NEW is a house with the settings of the old one. This is for
-# where no copy is left: what SQLite can't read is lost, and rows that name others may lack them, which is told.
+# rescue_house.sh BROKEN NEW: makes a house of all rows that SQLite still reads in a file which `auction` calls Damaged. Nobody serves
+# the file. It stays as it is, and NEW is a house with the settings of the old one, and with all tables and indexes of a house and no
+# other. This is for where no copy is left: what SQLite can't read is lost, and rows that name others may lack them, which is told.
 set -eu
 umask 077
 

@@ -7,10 +7,10 @@ file, sound for SQLite, with the rows of all that was answered before it was beg
 was done. What SQLite itself says of a served house is that it is locked, and that disturbs nobody. A copy is not restored over a
 house that is served; over one that isn't, or that is damaged, it is, and the program serves it. What is no house of this version
 is neither copied nor restored, and a copy that finds no room leaves nothing behind. A city's copy has its house, its accounts and
-its settings, and old ones are dropped. A house that was compacted by VACUUM, or has lost a page, is none, and the rows that
-SQLite reads are made one again. Where a superuser runs this, a restored house is its folder's owner's; and where btrfs-progs is
-there, snapshots of a file system of its own are copied too, also beside what a killed one has left. The last line is 'N checks, M
-wrong'.
+its settings, and old ones are dropped. A house that VACUUM has compacted is one. One that has lost a page is none, and the rows
+that SQLite reads are made one again, by the script and by `.recover`, where the command `sqlite3` has that. Where a superuser runs
+this, a restored house is its folder's owner's; and where btrfs-progs is there, snapshots of a file system of its own are copied
+too, also beside what a killed one has left. The last line is 'N checks, M wrong'.
 
 Promise: none
 """
@@ -27,6 +27,7 @@ import tempfile
 import threading
 import time
 
+from lib import written_anew
 from lib.checks import check, verdict
 from lib.confined import limited
 from lib.growing import Client, commands, made
@@ -283,26 +284,67 @@ def overwrite(house, table):
         file.write(b"\xff" * size)
 
 
+def sqlite(house, words):
+    subprocess.run(["sqlite3", house, words], check=True, capture_output=True, timeout=PATIENCE)
+
+
+def questionless(house):
+    return [line for line in dumped(house) if not line.startswith('INSERT INTO "question"')]
+
+
+def compacted(program, folder):
+    """A house is compacted in its place and into another file, is one in both, and is copied."""
+    shutil.copyfile(folder / "asked", folder / "in its place")
+    sqlite(folder / "in its place", "VACUUM")
+    sqlite(folder / "in its place", f"VACUUM INTO '{folder / 'into another'}'")
+    for name in ("in its place", "into another"):
+        check(f"{name}: a house", is_house(program, name), True)
+        check(f"{name}: all rows", dumped(folder / name), dumped(folder / "asked"))
+        check(f"{name}: copied", script("copy_house.py", folder / name, folder / f"{name} copied"), (0, "copied", ""))
+        check(f"{name} copied: a house", is_house(program, f"{name} copied"), True)
+
+
 def rescued(program, folder):
-    """Rows of a house that VACUUM has compacted, and of one that lost a page, are made a house again."""
+    """Rows of a house that lost a page are made a house again: by the script, and by `.recover`, where that is there. An index that
+    lost its page is made anew by a dump, with all rows; where one is missing, or a table is there that is none of a house, the
+    script has all rows too."""
     path = f"{pathlib.Path(program.path).parent}:{os.environ['PATH']}"
-    make_questions(program, "asked")
-    for name in ("compacted", "broken"):
+    for name, lost in (("broken", "question"), ("unsorted", "item_by_end")):
         shutil.copyfile(folder / "asked", folder / name)
-    with contextlib.closing(sqlite3.connect(folder / "compacted")) as database:
-        database.execute("VACUUM")
-    overwrite(folder / "broken", "question")
-    for name, lost in (("compacted", ""), ("broken", "some rows can't be read, and are lost\n")):
+        overwrite(folder / name, lost)
+        check(f"{name}: a house", is_house(program, name), False)
+    ending = script("rescue_house.sh", folder / "broken", folder / "rescued", PATH=path)
+    check("rescued", ending, (0, f"some rows can't be read, and are lost\n{ITEMS} items", ""))
+    written_anew.dumped(folder / "unsorted", folder / "sorted", None)
+    houses = {"rescued": questionless, "sorted": dumped}
+    for name, change in (("unindexed", "DROP INDEX item_by_end"), ("enlarged", "CREATE TABLE more (id)")):
+        shutil.copyfile(folder / "asked", folder / name)
+        sqlite(folder / name, change)
         check(f"{name}: a house", is_house(program, name), False)
         ending = script("rescue_house.sh", folder / name, folder / f"{name} rescued", PATH=path)
-        check(f"{name}: rescued", ending, (0, f"{lost}{ITEMS} items", ""))
-        check(f"{name}: a house again", is_house(program, f"{name} rescued"), True)
-    check("all rows", dumped(folder / "compacted rescued"), dumped(folder / "asked"))
-    questions = [line for line in dumped(folder / "asked") if line.startswith('INSERT INTO "question"')]
-    check("all but the questions", dumped(folder / "broken rescued"), [line for line in dumped(folder / "asked") if line not in questions])
+        check(f"{name}: rescued", ending, (0, f"{ITEMS} items", ""))
+        houses[f"{name} rescued"] = dumped
+    if written_anew.can_recover():
+        written_anew.recovered(folder / "broken", folder / "recovered", None)
+        written_anew.recovered(folder / "unsorted", folder / "recovered sorted", None)
+        houses.update({"recovered": questionless, "recovered sorted": dumped})
+    else:
+        print("left out: .recover, which the command sqlite3 here can't")
+    for name, kept in houses.items():
+        check(f"{name}: a house again", is_house(program, name), True)
+        check(f"{name}: what was left", dumped(folder / name), kept(folder / "asked"))
     (folder / "no house").write_text("This is no house." * 1000)
     status, said, error = script("rescue_house.sh", folder / "no house", folder / "none", PATH=path)
     check("no house", (status, said, "no settings of a house" in error, (folder / "none").exists()), (1, "", True, False))
+
+
+def lost_and_found(program, folder):
+    """A table that a rescue has left, and its gap in the list once it is taken away."""
+    shutil.copyfile(folder / "asked", folder / "found")
+    sqlite(folder / "found", "CREATE TABLE lost_and_found (rootpgno INTEGER, pgno INTEGER, nfield INTEGER, id INTEGER, c0)")
+    check("found: a house", is_house(program, "found"), False)
+    sqlite(folder / "found", "DROP TABLE lost_and_found; VACUUM")
+    check("found: a house again", is_house(program, "found"), True)
 
 
 def turned_over():
@@ -357,7 +399,10 @@ def main():
         refused(folder)
         replaced(program, folder)
         cities(program, folder)
+        make_questions(program, "asked")
+        compacted(program, folder)
         rescued(program, folder)
+        lost_and_found(program, folder)
         turned_over()
         if os.geteuid() == 0 and shutil.which("mkfs.btrfs"):
             snapshots(path, folder, count)

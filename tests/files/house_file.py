@@ -2,11 +2,12 @@
 """Looks what lies in the file of a house, beside its log and alone: `house_file.py PROGRAM`.
 
 After each command that has ended the file is copied without its log, and has to be the whole house, for the program and for
-SQLite. Nobody but its user may read it. While a house is served nobody else opens it, and nothing is lost by the try. A server
-that is killed leaves all that it acknowledged in the file with its log; and where that log is cut, wherever that is, the house as
-some of the accepted commands left it, and later ones not without the earlier. Where files may not grow, a command is answered
-that the store failed, and so is all after it on its connection, with which the server ends; and the house holds what was accepted
-before. The last line is 'N checks, M wrong'.
+SQLite. Nobody but its user may read it. A new house lists its tables and indexes in SQLite's own order: where SQLite has compacted
+its file they are listed as before, and it is the same house. While a house is served nobody else opens it, and nothing is lost by
+the try. A server that is killed leaves all that it acknowledged in the file with its log; and where that log is cut, wherever that
+is, the house as some of the accepted commands left it, and later ones not without the earlier. Where files may not grow, a command
+is answered that the store failed, and so is all after it on its connection, with which the server ends; and the house holds what
+was accepted before. The last line is 'N checks, M wrong'.
 
 Four sizes are the limit for `init`, five for `serve`; a log of twelve commands is cut after each of its pages and within some; a
 copy is read after the `statement` of a house whose server was killed.
@@ -71,6 +72,29 @@ def alone(program, folder, init):
     program.answers("house", [b"".join(COMMANDS)])
     check("a served house alone", rows(folder, copied(folder, "house", "kept")), TABLES)
     check("a served house", seen(program, copied(folder, "house", "kept")), seen_after(program, init, len(COMMANDS)))
+
+
+def objects(folder, name):
+    """What SQLite lists in a file, in its order: of each object its number, its words and its first page."""
+    database = sqlite3.connect(folder / name)
+    listed = database.execute("SELECT rowid, * FROM sqlite_schema ORDER BY rowid").fetchall()
+    database.close()
+    return listed
+
+
+def compacted(program, folder, init):
+    """SQLite leaves the objects of a new house where they are, and it stays a house, when it compacts the file."""
+    check("made", program.ended("init", "loose", *init), (0, b"created\n", b""))
+    made = objects(folder, "loose")
+    # An index that a key of a table makes has no words of its own, and stands with its table.
+    check("tables come first", [row[1] for row in made if row[5]], ["table"] * 12 + ["index"] * 7)
+    database = sqlite3.connect(folder / copied(folder, "loose", "vacuumed"))
+    database.execute("VACUUM INTO ?", [str(folder / "another")])
+    database.execute("VACUUM")
+    database.close()
+    for name in ("vacuumed", "another"):
+        check(f"{name} lists them so", objects(folder, name), made)
+        check(f"{name} is the house", seen(program, name), seen_after(program, init, 0))
 
 
 def private(program, folder, init):
@@ -148,6 +172,7 @@ def main():
         program = Program(str(pathlib.Path(sys.argv[1]).resolve()), path)
         init = ["--bands", "bands.csv", *SETTINGS]
         alone(program, folder, init)
+        compacted(program, folder, init)
         private(program, folder, init)
         together(program, folder, init)
         killed(program, folder, init)

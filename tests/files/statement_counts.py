@@ -18,7 +18,7 @@ from lib.serving import message
 
 # A kind of message, and the statements that it makes at most.
 KINDS = {
-    "an accepted bid": (message("POST", "/items/1/bids", 2, 1002, '{"maximum":900}'), 5),
+    "an accepted bid": (message("POST", "/items/1/bids", 2, 1002, '{"maximum":900}'), 4),
     "an item page": (message("GET", "/items/1", 2), 1),
     "a list of fifty items": (message("GET", "/categories/1/items/1", 2), 3),
     "a list of fifty own bids": (message("GET", "/me/bids/1", 2), 102),
