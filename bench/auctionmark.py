@@ -27,7 +27,7 @@ import postgres
 import serve
 import table
 from lib.serving import Program
-from measured import counted, in_turn, kept, seconds, shown, without_lacking
+from measured import counted, in_turn, kept, seconds, shown, shown_rounds, without_lacking
 
 # How many transactions are replayed, how many of their messages are counted, and how many are served.
 REPLAYED, TALLIED, SERVED = 100_000, 10_000, 20_000
@@ -59,15 +59,6 @@ def check_same(whose, ours, others):
     for place, (one, other) in enumerate(zip(ours, others, strict=True)):
         if one != other:
             sys.exit(f"auctionmark.py: answer {place} is {one[:300]} and {whose} {other[:300]}")
-
-
-def show(what, found, unit, digits=0):
-    """The medians of what each gave round by round, and how far the ratio went."""
-    medians = {name: statistics.median(values) for name, values in found.items()}
-    for other in found.keys() - {"ours"}:
-        ratios = [one / two if "a second" in unit else two / one for one, two in zip(found["ours"], found[other])]
-        medians |= {"least": min(ratios), "most": max(ratios)}
-    shown(what, medians, unit, digits)
 
 
 class House:
@@ -186,7 +177,7 @@ def replay(programs, messages):
 def count_replay(programs, title, before, messages):
     """Shows how many instructions a message takes."""
     first, whole = texts(before), texts(before + messages)
-    show(f"replay, {title}, a message", {
+    shown_rounds(f"replay, {title}, a message", {
         name: [(counted([path, *WORDS], whole) - counted([path, *WORDS], first)) / len(messages)]
         for name, path in programs.items()}, "instructions")
 
@@ -195,7 +186,7 @@ def time_replay(programs, title, before, messages):
     """Shows how many messages a second are answered, by processor time."""
     first, whole = texts(before), texts(before + messages)
     times = in_turn(programs, lambda path: seconds([path, *WORDS], whole)[0] - seconds([path, *WORDS], first)[0], ROUNDS)
-    show(f"replay, {title}", {name: [len(messages) / time for time in rounds] for name, rounds in times.items()},
+    shown_rounds(f"replay, {title}", {name: [len(messages) / time for time in rounds] for name, rounds in times.items()},
          "messages a second")
 
 
@@ -204,15 +195,15 @@ def compare_served(contenders, title, messages):
     found = in_turn(contenders, lambda contender: contender.in_turn(messages), ROUNDS)
     for rounds in zip(*found.values()):
         check_others({name: one[1] for name, one in zip(found, rounds)})
-    show(f"{title}, in turn", {name: [one[0] for one in rounds] for name, rounds in found.items()}, "a second")
+    shown_rounds(f"{title}, in turn", {name: [one[0] for one in rounds] for name, rounds in found.items()}, "a second")
     houses = {name: contender for name, contender in contenders.items() if isinstance(contender, House)}
     at_once = in_turn(houses, lambda house: house.at_once(messages), ROUNDS)
     for rounds in zip(*at_once.values()):
         check_others({name: one[1] for name, one in zip(at_once, rounds)})
-    show(f"{title}, at once", {name: [speed for speed, _ in rounds] for name, rounds in at_once.items()}, "a second")
+    shown_rounds(f"{title}, at once", {name: [speed for speed, _ in rounds] for name, rounds in at_once.items()}, "a second")
     for name_asked in sorted({message.name for message in messages}):
         places = [place for place, message in enumerate(messages) if message.name == name_asked]
-        show(f"{title}, {name_asked}", {name: [statistics.median(times[place] for place in places) for _, _, times in found[name]]
+        shown_rounds(f"{title}, {name_asked}", {name: [statistics.median(times[place] for place in places) for _, _, times in found[name]]
                                         for name in houses}, "us", 1)
 
 

@@ -1,6 +1,6 @@
 """How much of a durable bid, of a start and of the memory is the kit's SQLite: `limits.py PROGRAM BENCH`.
 
-BENCH is the program `bench_sqlite` that `make test` leaves: it makes the five statements of a bid and commits, or only connects.
+BENCH is the program `bench_sqlite` that `make test` leaves: it makes the four statements of a bid and commits, or only connects.
 PROGRAM is bid on over one connection, each bid in its turn, as `serve.py` does. Both go over copies of the same houses: a new one,
 and of 1,000 and 100,000 items. Each figure is the median of some runs of both in turn, by the clock, by processor time, or of the
 most memory held.

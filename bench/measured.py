@@ -66,6 +66,17 @@ def shown(what, found, unit, digits=0):
     print(line, flush=True)
 
 
+def shown_rounds(what, found, unit, digits=0):
+    """A line of the medians of what each gave round by round; of more than one, with how many times ours was ahead at least and at
+    most."""
+    figures = medians(found)
+    for whose in published.OTHERS.keys() & found.keys():
+        ratios = [ours / other if "a second" in unit else other / ours for ours, other in zip(found["ours"], found[whose])]
+        if len(ratios) > 1:
+            figures |= {"least": min(ratios), "most": max(ratios)}
+    shown(what, figures, unit, digits)
+
+
 @contextlib.contextmanager
 def kept(name, by):
     """Keeps all that is shown meanwhile as a run of this name."""

@@ -19,7 +19,7 @@ ROOT = pathlib.Path(__file__).resolve().parent.parent
 sys.path.insert(0, str(ROOT / "tests"))
 import workload  # noqa: E402
 from lib.sent import Request, command, compact, read  # noqa: E402
-from measured import RUNS, counted, in_turn, medians, seconds, shown, without_lacking  # noqa: E402
+from measured import RUNS, counted, in_turn, seconds, shown, shown_rounds, without_lacking  # noqa: E402
 
 SIZES = [1_000, 100_000]
 CATEGORIES, MOMENT = 20, 1_001
@@ -66,14 +66,14 @@ def kinds(items):
 
 
 def instructions(runs):
-    """For each name, how many instructions its second run takes for one thing more."""
-    return {name: (counted(*run.many) - counted(*run.few)) / run.count for name, run in runs.items()}
+    """For each name, how many instructions its second run takes for one thing more, as one round."""
+    return {name: [(counted(*run.many) - counted(*run.few)) / run.count] for name, run in runs.items()}
 
 
 def nanoseconds(runs, times=RUNS):
-    """For each name, how long that takes by the clock of the processor, in billionths of a second."""
-    found = medians(in_turn(runs, lambda run: seconds(*run.many)[0] - seconds(*run.few)[0], times))
-    return {name: 1e9 * time / runs[name].count for name, time in found.items()}
+    """For each name, how long that takes by the clock of the processor, in billionths of a second, round by round."""
+    found = in_turn(runs, lambda run: seconds(*run.many)[0] - seconds(*run.few)[0], times)
+    return {name: [1e9 * time / runs[name].count for time in rounds] for name, rounds in found.items()}
 
 
 UNITS = {"instructions": (instructions, "tallied"), "ns": (nanoseconds, "timed")}
@@ -122,12 +122,12 @@ def pages(programs, items, stream, record):
             runs = {who: asked(program, stream, kind, count)
                     for who, program in shows(programs, stream, kind, record).items()}
             costs[name] = measure(runs)
-            shown(f"{items} items: {name}", costs[name], unit)
+            shown_rounds(f"{items} items: {name}", costs[name], unit)
             if kind.words:
                 texts[name] = measure({"plain": by_plain(kind.words, record, count)})["plain"]
         for name, plain in texts.items():
-            ours = costs[name]["ours"] - costs["empty list"]["ours"]
-            shown(f"{items} items: text of {name}", {"ours": ours, "plain": plain}, unit)
+            ours = [whole - empty for whole, empty in zip(costs[name]["ours"], costs["empty list"]["ours"])]
+            shown_rounds(f"{items} items: text of {name}", {"ours": ours, "plain": plain}, unit)
 
 
 def records(program, items, stream, record):
@@ -136,11 +136,11 @@ def records(program, items, stream, record):
     same(seconds(*plain.many)[1], record)
     runs = {"ours": More(([program, *WORDS], stream), ([program, *WORDS, "--record"], stream), 1), "plain": plain}
     costs = instructions(runs)
-    shown(f"{items} items: record", costs, "instructions")
-    shown(f"of {len(record):,} bytes, a byte", {name: cost / len(record) for name, cost in costs.items()}, "instructions", 1)
+    shown_rounds(f"{items} items: record", costs, "instructions")
+    shown(f"of {len(record):,} bytes, a byte", {name: cost / len(record) for name, [cost] in costs.items()}, "instructions", 1)
     if items == SIZES[-1]:
         # It is short beside the house that is set up before it.
-        shown(f"{items} items: record", nanoseconds(runs, 3 * RUNS), "ns")
+        shown_rounds(f"{items} items: record", nanoseconds(runs, 3 * RUNS), "ns")
 
 
 def measured(programs, items):

@@ -79,14 +79,17 @@ def shown_by_name(runs):
 
 def row(found):
     plain = number(found["plain"]) if "plain" in found else ""
-    return f"| {found['what']} | {found['unit']} | {number(found['ours'])} | {plain} | {times_ahead(found, found['unit'])} |"
+    spread = f"{found['least']:.2f} to {found['most']:.2f}" if "least" in found else ""
+    return f"| {found['what']} | {found['unit']} | {number(found['ours'])} | {plain} | {times_ahead(found, found['unit'])} | {spread} |"
 
 
 def table(run):
     """The page that shows all figures of a run."""
     lines = ["# Ours beside plain Rust", "", f"Commit `{run['commit']}`, {run['machine']}. On the disk of this run Python's `sqlite3` "
              f"made {number(run['commits'])} commits of a row a second.", "",
-             "The last column says how many times ours is ahead: over 1 it is better than plain Rust, under 1 worse.", ""]
+             "Ahead is how many times ours is ahead: over 1 it is better than plain Rust, under 1 worse. A time is the median of some "
+             "rounds of both in turn; the last column says how far ahead ours was in the worst round and in the best.", ""]
     for title, figures in run["parts"].items():
-        lines += [f"## {title}", "", "| What | Unit | Ours | Plain Rust | Ahead |", "|---|---|---|---|---|", *map(row, figures), ""]
+        lines += [f"## {title}", "", "| What | Unit | Ours | Plain Rust | Ahead | From round to round |", "|---|---|---|---|---|---|",
+                  *map(row, figures), ""]
     return "\n".join(lines)

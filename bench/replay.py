@@ -15,7 +15,7 @@ import sys
 sys.path.insert(0, str(pathlib.Path(__file__).resolve().parent.parent / "tests"))
 import workload  # noqa: E402
 from lib.sent import answers_in, command, compact, read  # noqa: E402
-from measured import counted, in_turn, medians, seconds, shown, without_lacking  # noqa: E402
+from measured import counted, in_turn, seconds, shown, shown_rounds, without_lacking  # noqa: E402
 
 MORE = 1_000
 # By stream, of how many messages times are shown and instructions are counted.
@@ -102,9 +102,8 @@ def streams(programs):
         before, messages = workload.made(kind, timed)
         first, whole = b"".join(before), b"".join(before + messages)
         answered(programs, whole)
-        times = medians(in_turn(programs, lambda program: seconds([program, *WORDS], whole)[0]
-                                - seconds([program, *WORDS], first)[0]))
-        shown(kind, {name: timed / time for name, time in times.items()}, "messages a second")
+        found = in_turn(programs, lambda program: seconds([program, *WORDS], whole)[0] - seconds([program, *WORDS], first)[0])
+        shown_rounds(kind, {name: [timed / time for time in times] for name, times in found.items()}, "messages a second")
 
 
 def main(program, *plain):

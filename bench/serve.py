@@ -26,7 +26,7 @@ sys.path.insert(0, str(ROOT / "tests"))
 import workload  # noqa: E402
 from lib.sent import command, compact, read  # noqa: E402
 from lib.serving import PRESET, Program  # noqa: E402
-from measured import in_turn, medians, shown, without_lacking  # noqa: E402
+from measured import in_turn, shown_rounds, without_lacking  # noqa: E402
 
 RUNS, BIDS, READS, MIXED = 5, 2_000, 9_999, 9_999
 # How many messages one connection may send.
@@ -151,7 +151,7 @@ def served(programs):
     found = in_turn({name: (name, program) for name, program in programs.items()}, once, RUNS)
     if len(set(map(frozenset, answers.values()))) != 1:
         sys.exit("serve.py: the programs answer differently")
-    return {name: [statistics.median(column) for column in zip(*runs)] for name, runs in found.items()}
+    return columns(found)
 
 
 def large(programs, folder, items):
@@ -180,8 +180,12 @@ def large(programs, folder, items):
             exchanged(server.port, pages[:1])
         return 1e3 * ready, 1e3 * spent, held
 
-    found = in_turn({name: (name, program) for name, program in programs.items()}, once, RUNS)
-    return {name: [statistics.median(column) for column in zip(*runs)] for name, runs in found.items()}
+    return columns(in_turn({name: (name, program) for name, program in programs.items()}, once, RUNS))
+
+
+def columns(found):
+    """For each name, what was found of each thing, round by round."""
+    return {name: [list(column) for column in zip(*runs)] for name, runs in found.items()}
 
 
 def main(path, *plain):
@@ -195,13 +199,13 @@ def main(path, *plain):
                 ("bids, each in its turn", "a second", 0), ("the server's time of one", "us", 1),
                 ("reads at once", "a second", 0), ("reads, by the server's time", "a second", 0),
                 ("mixed at once", "a second", 0), ("mixed, by the server's time", "a second", 0), ("memory", "MB", 1))):
-            shown(what, {name: figures[place] for name, figures in found.items()}, unit, digits)
+            shown_rounds(what, {name: figures[place] for name, figures in found.items()}, unit, digits)
         made = statistics.median(commits(folder) for _ in range(RUNS))
         print(f"{made:,.0f} commits of a row a second by Python's sqlite3")
         for items in SIZES:
             found = large(programs, folder, items)
             for place, (what, unit) in enumerate((("to listening", "ms"), ("its processor time", "ms"), ("memory", "MB"))):
-                shown(f"{items} items, {what}", {name: figures[place] for name, figures in found.items()}, unit, 1)
+                shown_rounds(f"{items} items, {what}", {name: figures[place] for name, figures in found.items()}, unit, 1)
     return made
 
 

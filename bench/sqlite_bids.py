@@ -1,6 +1,6 @@
 """Makes the statements of bids on a house in a file by SQLite itself: `sqlite_bids.py FILE BIDS`.
 
-It does what the program `bench_sqlite` does by the kit's SQLite, on the same tables: of each bid on item 1 the five statements, and
+It does what the program `bench_sqlite` does by the kit's SQLite, on the same tables: of each bid on item 1 the four statements, and
 a commit, with the log and the syncs that the house has. It prints how many microseconds a bid takes, on average and in the middle.
 """
 import sqlite3
@@ -15,8 +15,7 @@ READ = ("SELECT id, seller, category, start, buy_now, ending, state, closed, pri
 def place(database, number):
     """One bid, in one transaction."""
     member, top = 2 + number % 2, 10_000 * number
-    for _ in range(2):
-        database.execute(READ, (1,)).fetchall()
+    database.execute(READ, (1,)).fetchall()
     database.execute("BEGIN IMMEDIATE")
     database.execute("INSERT INTO bid (item, no, member, maximum) VALUES (?1, ?2, ?3, ?4)", (1, number, member, top))
     database.execute("UPDATE item SET price = ?2, leader = ?3, top = ?4, second = ?5, count = ?6 WHERE id = ?1",

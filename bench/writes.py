@@ -3,7 +3,7 @@
 `writes.py PROGRAM [BENCH]` bids on a house in a new file over one connection, each bid in its turn, as `serve.py` does, and has
 `strace` note every call. Beside it are the house in plain Rust, over `rusqlite` on tables of its own; SQLite itself on ours, which
 `sqlite_bids.py` asks by Python; and BENCH, the program `bench_sqlite` that `make test` leaves, which does the same by the kit's
-SQLite: the five statements of a bid, a commit, and nothing else. So what PROGRAM does and BENCH doesn't is not the kit's. Calls and
+SQLite: the four statements of a bid, a commit, and nothing else. So what PROGRAM does and BENCH doesn't is not the kit's. Calls and
 bytes of a bid are those of 8,000 bids more, and don't depend on the machine. An answer that is sent before what was written to the
 log is synced ends the run.
 

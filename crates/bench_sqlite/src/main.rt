@@ -1,5 +1,5 @@
 //! What the kit's SQLite takes where nothing else is done: `bench_sqlite FILE N` connects to a house in a
-//! file, makes the five statements of each of N bids on its item 1, as the house makes them, and prints how
+//! file, makes the four statements of each of N bids on its item 1, as the house makes them, and prints how
 //! many bids the item then has. With 0 it connects and counts. `bench_sqlite :memory: N` makes the tables
 //! first. A failure is printed on standard error as `bench_sqlite: ` and a sentence.
 #![tactic(auto)]
@@ -15,7 +15,7 @@ CREATE TABLE bid (item INTEGER NOT NULL, no INTEGER NOT NULL, member INTEGER NOT
 INSERT INTO house (id, clock) VALUES (1, 1000);
 INSERT INTO item (id, seller, category, start, ending, state, price, count) VALUES (1, 1, 1, 500, 2000, 0, 500, 0);";
 
-// What a house reads of an item before it decides on a bid, and again before it writes one.
+// What a house reads of an item before it decides on a bid, and remembers as it writes one.
 fn read_item<S: Alter>(conn: &mut Connection<S>) -> Result<(), Error> {
     conn.query_all(
         "SELECT id, seller, category, start, buy_now, ending, state, closed, price, leader, \
@@ -61,7 +61,6 @@ fn set_clock<S: Alter>(tx: &mut Transaction<'_, S>) -> Result<(), Error> {
 
 // Makes the statements of a bid, and commits.
 fn place<S: Alter>(conn: &mut Connection<S>, number: u32) -> Result<(), Error> {
-    read_item(conn)?;
     read_item(conn)?;
     if !conn.is_autocommit() {
         return Err(Error::SqliteFailure(ErrorCode::TransactionState));
