@@ -87,7 +87,7 @@ def compacted(program, folder, init):
     check("made", program.ended("init", "loose", *init), (0, b"created\n", b""))
     made = objects(folder, "loose")
     # An index that a key of a table makes has no words of its own, and stands with its table.
-    check("tables come first", [row[1] for row in made if row[5]], ["table"] * 12 + ["index"] * 7)
+    check("tables come first", [row[1] for row in made if row[5]], ["table"] * 12 + ["index"] * 8)
     database = sqlite3.connect(folder / copied(folder, "loose", "vacuumed"))
     database.execute("VACUUM INTO ?", [str(folder / "another")])
     database.execute("VACUUM")

@@ -19,13 +19,14 @@ use Rattle.sqlite.specs.Held.{AreDatabases, Held}
 use Rattle.sqlite.specs.State.{HasCleanDisk}
 use Rattle.tree_order.specs.Shown.{shown_trees}
 use Rattle.tree_order.specs.declared.renumbered.Renumbered.{Renumbered}
-use Rattle.store_rows.specs.House.{IsHouse}
-use Rattle.store_rows.specs.Schema.{house_schema}
 use Rattle.store_house.specs.Named.{IsReordered}
 use Rattle.store.specs.Kept.{LeavesHouses}
 use Rattle.store_house.proofs.ArrangedLemmas.{found_in_order}
 use Rattle.store.specs.Closing.{IsClosed, IsCopied, IsEmptied}
 use Rattle.store.specs.InOrder.{order_state, over_order}
+use Rattle.sqlite_catalog.specs.Listing.{IsSound}
+use Rattle.store_rows.specs.Tables.{tables_in}
+use Rattle.sqlite_schema.specs.declared.schema.Schema.{Schema}
 
 -- a crash may leave what was committed
 pub stays_shown : {D : Type 0} {g : disk.Ghosts D} (conn : Held (Renumbered (FileStore D g))) → SeenMayStay g → IsTrue (order_state conn).is_open
@@ -52,7 +53,8 @@ module _ {D : Type 0} {g : disk.Ghosts D} (conn : Held (Renumbered (FileStore D 
       are_databases back.numbers.inner.items back.numbers.outer.items back.inner back.numbers.inverse (numbered clean)
       (λ below may.
       let shown : Trees = shown_trees back.numbers below in
-      (house_schema, (houses early shown (quiet.outcomes shown (below, may, refl))).sound, refl))
+      let held = houses early shown (quiet.outcomes shown (below, may, refl)) in
+      (held.0.schema, subst (IsSound held.0.schema) (sym held.2) held.1.sound, ap (λ (s : Schema). s.views) held.1.schema))
 
   module _ (last : FileStore D g) (after : IsQuiet view faults recovers is_shielded back.inner last) where
     pub is_closed : IsClosed conn last
@@ -79,7 +81,7 @@ module _ {D : Type 0} {g : disk.Ghosts D} (conn : Held (Renumbered (FileStore D 
       let order : IsReordered db (order_state conn).committed.trees = subst (IsReordered db) (sym shown) (order_of db) in
       let was_open : IsTrue (order_state conn).is_open = kept.was_open was in
       let was_clean : HasCleanDisk (order_state conn) = omega (arith, quiet.clean, early) in
-      let house : IsHouse (record { schema = house_schema; trees = (order_state conn).committed.trees }) = houses was_clean _ (stays_shown conn stays was_open) in
+      let held = houses was_clean _ (stays_shown conn stays was_open) in
       let sound : AreDatabases (recovers last) = λ found may. databases early found (emptied.quiet.outcomes found may) in
       let each = λ (image : Image) (may : outcomes g files.log files.db image).
       copied last stays on (emptied.numbered clean ∙ numbered early) sound (emptied.empty clean) image
@@ -89,7 +91,7 @@ module _ {D : Type 0} {g : disk.Ghosts D} (conn : Held (Renumbered (FileStore D 
         was_open = was_open;
         db = db;
         order = order;
-        tables = found_in_order db (record { schema = house_schema; trees = (order_state conn).committed.trees }) (list_shaped last db (stays_at last stays on)) order house;
+        tables = ap tables_in held.2 ∙ found_in_order db held.0 (list_shaped last db (stays_at last stays on)) (subst (IsReordered db) held.2 order) held.1;
         seen = each _ (stays _, stays _);
         left = each;
       }

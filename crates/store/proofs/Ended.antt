@@ -1,5 +1,5 @@
 -- What a keep in order that is ended leaves of its files.
-use Rattle.std.proofs.Common.{◌≡◌, ◌∙◌, false, IsTrue, ap, arith, sym}
+use Rattle.std.proofs.Common.{◌≡◌, ◌∙◌, false, IsTrue, ap, arith, sym, subst}
 use Rattle.std.proofs.Math.Logic.{∥∥₁_map}
 use Rattle.file_order.proofs.RecoveredLemmas.{list_shaped}
 use Rattle.sqlite_disk.specs.declared.Disk as disk
@@ -13,10 +13,8 @@ use Rattle.sqlite.specs.Effect.{Database}
 use Rattle.sqlite.specs.Files.{HoldsDatabase}
 use Rattle.sqlite.specs.State.{HasCleanDisk}
 use Rattle.tree_order.specs.declared.renumbered.Renumbered.{Renumbered}
-use Rattle.store_rows.specs.House.{IsHouse}
-use Rattle.store_rows.specs.Schema.{house_schema}
 use Rattle.store_rows.specs.Tables.{tables_in}
-use Rattle.store_house.specs.Named.{tables_held}
+use Rattle.store_house.specs.Named.{tables_held, IsReordered}
 use Rattle.store.specs.Kept.{House, IsKept, MayLeave, content}
 use Rattle.store.proofs.Closed.{stays_shown}
 use Rattle.store_house.proofs.ArrangedLemmas.{found_in_order}
@@ -61,6 +59,6 @@ module _ {D : Type 0} (g : disk.Ghosts D) (keep : House (Renumbered (FileStore D
     tables = λ clean found may.
         let early : HasCleanDisk (order_state keep.conn) = omega (arith, closed.clean, clean) in
         let left = closed.crash found may in
-        let house : IsHouse (record { schema = house_schema; trees = left.0 }) = kept.houses early left.0 left.1 in
-        (left.0, left.1, sym (found_in_order found (record { schema = house_schema; trees = left.0 }) (list_shaped store found may) left.2 house));
+        let held = kept.houses early left.0 left.1 in
+        (left.0, left.1, sym (ap tables_in held.2 ∙ found_in_order found held.0 (list_shaped store found may) (subst (IsReordered found) held.2 left.2) held.1));
   }

@@ -17,9 +17,9 @@ use Rattle.house_rows.specs.declared.settings.Settings.{Settings}
 use Rattle.store_rows.specs.declared.reserve.ReserveRow.{ReserveRow}
 use Rattle.store_rows.specs.House.{IsHouse}
 use Rattle.store_rows.specs.Rows.{reserves_in}
-use Rattle.store_rows.specs.Schema.{house_schema}
 use Rattle.store_rows.specs.Tables.{IsAtRest, tables_in}
 use Rattle.store_items.specs.Seen.{IsThere}
+use Rattle.sqlite.specs.Effect.{Database}
 
 -- the connection, and what is known of its tables without asking it
 pub record House (S : Type 0) : Type 0 where
@@ -87,7 +87,7 @@ pub record IsKnown (editions : BandTables) (reserves : List ReserveRow) (counts 
 -- what a crash may leave is a house, as far as the disk was honest
 abbrev pub LeavesHouses : State → Type 0
 LeavesHouses s = HasCleanDisk s → (db : Trees) → s.may_leave db
-    → IsHouse (record { schema = house_schema; trees = db })
+    → (house : Database) × IsHouse house × (db ≡ house.trees)
 
 -- No transaction is open; and until it failed, a house is committed, as far as the disk was honest, and an item that was seen
 -- last is as it was seen. A crash leaves a house whether it failed or not.

@@ -15,7 +15,7 @@ use Rattle.sqlite.specs.Effect.{Database}
 use Rattle.sqlite.specs.State.{State, Shown}
 use Rattle.sqlite.proofs.Callers.{reads_as}
 use Rattle.house_rows.specs.Bids.{BidRow, bid_key}
-use Rattle.store_rows.specs.Schema.{bid_table, house_schema}
+use Rattle.store_rows.specs.Schema.{bid_table}
 use Rattle.store_rows.specs.House.{IsHouse}
 use Rattle.store_rows.specs.Rows.{number_in, bid_in}
 use Rattle.store_rows.proofs.ColumnLemmas.{holds_all}
@@ -48,7 +48,7 @@ bid_found item number low small old new answer house h =
     let params : Row = Int (pos item) ∷ Int (pos number) ∷ [] in
     let table = old.now.trees 8 in
     let is_bid = λ (b : BidRow). (b.item == item) && (b.bid.no == number) in
-    let read = reads_as has_bid_text params old new house_schema house.schema _ has_bid_is.0 has_bid_is.2 has_bid_is.1 answer h in
+    let read = reads_as has_bid_text params old new _ house.schema _ (has_bid_is _).0 (has_bid_is _).2 (has_bid_is _).1 answer h in
     let listing = listed 8 of_pair (col 1 2 ∷ []) [] (overlay old.now.trees []) params answer (read.answer Null) in
     let many = rows_counted of_pair (col 1 2 ∷ []) [] params table answer listing bid_key bid_in is_bid HasKey
     (λ r is. rw (equals_number (column r 1) item is.0 low, equals_number (column r 2) number is.1 small) (ap (λ b. eqb (number_in (column r 1)) item && b) (alone _))) (have_keys old.now house) in

@@ -14,7 +14,7 @@ use Rattle.sqlite.specs.Edit.{next_rowid}
 use Rattle.sqlite.specs.Effect.{Database}
 use Rattle.sqlite.specs.State.{State, Executes}
 use Rattle.house_rows.specs.Bids.{BidRow}
-use Rattle.store_rows.specs.Schema.{bid_table, bid_layout}
+use Rattle.store_rows.specs.Schema.{bid_layout, bid_table}
 use Rattle.store_rows.specs.Rows.{bid_in}
 use Rattle.store_rows.specs.House.{IsHouse, AddsBid}
 use Rattle.store_rows.proofs.RowLemmas.{int_if, small}
@@ -60,7 +60,7 @@ adds_bid old new row count low house h =
     let given : Row = Int (next_rowid rows) ∷ Int (pos row.item) ∷ Int (pos row.bid.no) ∷ Int (pos row.bid.member) ∷ Int (pos row.bid.maximum) ∷ [] in
     let shaped = house.shaped.1.1.1.1.1.0 in
     let w = rw (cast_null, cast_int (pos row.item), cast_int (pos row.bid.no), cast_int (pos row.bid.member), cast_int (pos row.bid.maximum)) at
-    (puts put_bid_text 5 bid_layout bid_terms 5 params (Null ∷ params) refl put_bid_is.0 put_bid_is.1 refl old new count house.schema h) in
+    (puts _ put_bid_text 5 bid_layout bid_terms 5 params (Null ∷ params) refl (put_bid_is _).0 (put_bid_is _).1 refl old new count house.schema h) in
     let back : bid_in given ≡ row = rw (small row.item low.item, small row.bid.no low.number, small row.bid.member low.member, small row.bid.maximum low.maximum) refl in
     record {
       house = still_house 8 _ old.now new.now house w (IsShaped-put_row given rows refl shaped);

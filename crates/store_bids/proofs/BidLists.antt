@@ -1,5 +1,5 @@
 -- What the list of a member's bids means and finds.
-use Rattle.std.proofs.Common.{◌≡◌, ◌==◌, ◌<◌, ◌^◌, ◌&&◌, ℕ, pos, true, false, not, List, [], ◌∷◌, map, filter, codes, eqb, refl, ap, subst, sym, ◌∙◌, arith}
+use Rattle.std.proofs.Common.{◌≡◌, ◌==◌, ◌<◌, ◌^◌, ◌&&◌, ℕ, pos, true, false, not, List, [], ◌∷◌, map, filter, codes, eqb, refl, ap, subst, sym, ◌∙◌, arith, Bool}
 use Rattle.std.specs.List.{AllByRecursion}
 use Rattle.sqlite_value.specs.declared.value.Value.TheVariants.{Null, Int}
 use Rattle.sqlite_value.specs.Keys as keys
@@ -20,7 +20,7 @@ use Rattle.proxy.specs.declared.bid.Bid.{Bid}
 use Rattle.house_rows.specs.Bids.{BidRow, bid_key}
 use Rattle.house_rows.specs.Fits.{BidRowFits}
 use Rattle.store_rows.specs.Fitting.{BidFits}
-use Rattle.store_rows.specs.Schema.{house_schema}
+use Rattle.store_rows.specs.Schema.{house_by}
 use Rattle.store_rows.specs.House.{IsHouse}
 use Rattle.store_rows.specs.Plain.{plain_query, passes}
 use Rattle.store_rows.specs.Rows.{number_in, bid_in, bid_of, bids_in}
@@ -38,11 +38,11 @@ use Rattle.store_rows.proofs.TextLemmas.{same_number}
 abbrev pub bids_text : List ℕ
 bids_text = codes "SELECT item, no, member, maximum FROM bid WHERE member = ?1 AND item = ?2 ORDER BY item, no"
 
-pub bids_is : (command_of (understood house_schema bids_text)
+pub bids_is : (b : Bool) → (command_of (understood (house_by b) bids_text)
     ≡ Select (record { lets = []; body = plain_query 8 by_member_on_item bid_shown two_columns }) (codes "item" ∷ codes "no" ∷ codes "member" ∷ codes "maximum" ∷ []))
-    × (reads_listing house_schema bids_text ≡ false) × IsPlain (understood house_schema bids_text)
+    × (reads_listing (house_by b) bids_text ≡ false) × IsPlain (understood (house_by b) bids_text)
 unfolding understood everything
-bids_is = (refl, refl, (refl, refl))
+bids_is b = (refl, refl, (refl, refl))
 
 abbrev Pair : Row → Type 0
 Pair r = HasPair (bid_key (bid_in r)) r
@@ -51,7 +51,7 @@ pub unique : (db : Database) → IsHouse db → AllByRecursion (λ s. not (clash
 unique db house =
     let rows = db.trees 8 in
     let sound = subst (λ h. IsSound h db.trees) house.schema house.sound in
-    all_weaker _ (λ s. not (clashes keys.plain (1 ∷ 2 ∷ []) rows s) ≡ true) (λ s h. first_of_both (not (clashes keys.plain (1 ∷ 2 ∷ []) rows s)) true h) rows (sound.obeys.rules Unique).1.1.1.1.1.0
+    all_weaker _ (λ s. not (clashes keys.plain (1 ∷ 2 ∷ []) rows s) ≡ true) (λ s h. first_of_both (not (clashes keys.plain (1 ∷ 2 ∷ []) rows s)) _ h) rows (sound.obeys.rules Unique).1.1.1.1.1.0
 
 -- a bid without its item, as it is shown
 abbrev pub bid_alone : Row → Bid
@@ -65,7 +65,7 @@ module _ (member item : ℕ) (low : member < 2 ^ 32) (small : item < 2 ^ 32) (ol
   params = Int (pos member) ∷ Int (pos item) ∷ []
 
   listing : IsListOf table by_member_on_item bid_shown two_columns params answer
-  listing = listed 8 by_member_on_item bid_shown two_columns (overlay old.now.trees []) params answer ((reads_as bids_text params old new house_schema house.schema _ bids_is.0 bids_is.2 bids_is.1 answer h).answer Null)
+  listing = listed 8 by_member_on_item bid_shown two_columns (overlay old.now.trees []) params answer ((reads_as bids_text params old new _ house.schema _ (bids_is _).0 (bids_is _).2 (bids_is _).1 answer h).answer Null)
 
   tests : (r : Row) → IsBid r → passes by_member_on_item params r ≡ ((bid_in r).bid.member == member) && ((bid_in r).item == item)
   tests r is = rw (equals_number (column r 3) member is.1 low, equals_number (column r 1) item is.0 small) (ap (λ b. eqb (number_in (column r 3)) member && b) (alone _))

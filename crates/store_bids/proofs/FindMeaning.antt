@@ -10,4 +10,4 @@ has_bid_text = codes "SELECT no FROM bid WHERE item = ?1 AND no = ?2"
 
 pub has_bid_is : Finds has_bid_text 8 of_pair (col 1 2) (codes "no")
 unfolding understood everything
-has_bid_is = (refl, refl, (refl, refl))
+has_bid_is b = (refl, refl, (refl, refl))

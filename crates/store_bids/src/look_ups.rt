@@ -2,17 +2,15 @@
 ghost use Rattle.std.specs.Prelude.{◌≡◌, ◌==◌, ◌&&◌, ⊤, [], filter, nat_le, take, IsErrOf, OnOk};
 ghost use Rattle.std.specs.List.{list_any};
 ghost use Rattle.sqlite.specs.State.{HasCleanDisk, Shown};
-ghost use Rattle.sqlite.specs.Given.{IsPlain};
-ghost use Rattle.sqlite.specs.Listing.{understood};
 ghost use Rattle.sqlite.specs.Held.{state};
 ghost use Rattle.house_rows.specs.Limits.{most_shown};
 ghost use Rattle.house_rows.specs.declared.fault.KeepFault.TheVariants.{Damaged};
 ghost use Rattle.store_rows.specs.House.{Serves};
-ghost use Rattle.store_rows.specs.Schema.{house_schema};
-ghost use Rattle.store_rows.specs.First.{IsFinite, ShowsSome};
+ghost use Rattle.store_rows.specs.First.{ShowsSome};
 ghost use Rattle.store_rows.specs.Sorted.{sorted_bids};
 ghost use Rattle.store_rows.specs.Frames.{Finds, OnlyReads};
 ghost use Rattle.store_bids.specs.OwnBids.{items_bid_on};
+ghost use Rattle.store_rows.specs.Statements.{AlwaysFinite, AlwaysPlain};
 
 use house_rows::{KeepFault, MOST_SHOWN};
 use sqlite::{Alter, Connection, params};
@@ -68,8 +66,8 @@ pub(crate) fn no_item<S: Alter>(
     sql: &str,
 ) -> Result<(), KeepFault>
     requires serves { Serves (state S.Store conn.old) }
-    requires plain { IsPlain (understood house_schema sql.now) }
-    requires finite { IsFinite (understood house_schema sql.now) }
+    requires plain { AlwaysPlain sql.now }
+    requires finite { AlwaysFinite sql.now }
     ensures none { HasCleanDisk (state S.Store conn.new)
         → OnOk result (Shown sql.now [] (state S.Store conn.old) (state S.Store conn.new) []) }
     ensures damaged { HasCleanDisk (state S.Store conn.new)

@@ -1,38 +1,41 @@
 -- A house whose trees lie in any order is found by their names.
-use Rattle.std.proofs.Common.{◌≡◌, ◌≤◌, ◌+◌, ◌∙◌, ℕ, zero, suc, pos, negsuc, cond, List, [], ◌∷◌, map, filter, length, refl, sym, ap, ap₂, subst, arith, inl, inr}
+use Rattle.std.proofs.Common.{◌≡◌, ◌≤◌, ◌+◌, ◌∙◌, ℕ, zero, suc, pos, negsuc, cond, List, [], ◌∷◌, map, filter, length, refl, sym, ap, ap₂, subst, arith, inl, inr, Bool, true, false, not, codes, true≢false}
 use Rattle.std.specs.Prelude.{ℤ}
 use Rattle.std.specs.Fmt.{digits}
 use Rattle.std.specs.List.{range_with_len}
-use Rattle.std.proofs.lemmas.Bool.{cases_eq, cases_lt}
+use Rattle.std.proofs.lemmas.Bool.{cases_eq, cases_lt, cases_Bool}
 use Rattle.std.proofs.lemmas.List.{get_or-map}
 use Rattle.std.proofs.lemmas.List.FromFn.{get_or-range_with_len, length-range_with_len}
 use mathlib.Core.Path.{fun_ext}
 use Rattle.sqlite_value.specs.declared.value.Value.TheVariants.{Null, Int, Real, Text, Blob}
-use Rattle.sqlite_value.specs.Order.{Row}
+use Rattle.sqlite_value.specs.Order.{Row, column}
 use Rattle.sqlite.specs.Effect.{Database}
 use Rattle.sqlite_trees.specs.Objects.{catalog_tree}
 use Rattle.sqlite_trees.specs.Tree.{Trees}
 use Rattle.sqlite_trees.specs.View.{IsShaped}
 use Rattle.sqlite_trees.specs.declared.store.Shape.TheVariants.{Table}
-use Rattle.sqlite_catalog.proofs.LayoutLemmas.{zipped_left}
+use Rattle.sqlite_catalog.proofs.LayoutLemmas.{zipped_left, zipped_right}
 use Rattle.sqlite_catalog.proofs.SoundLemmas.{list_parts}
-use Rattle.sqlite_catalog.specs.Listing.{AreListed, IsIndexRow, automatic, is_index_row}
-use Rattle.sqlite_rules.proofs.ListLemmas.{has_filtered}
+use Rattle.sqlite_catalog.specs.Listing.{AreListed, IsIndexRow, automatic, is_index_row, IsTableRow, IsViewRow, is_table_row, is_view_row}
+use Rattle.sqlite_rules.proofs.ListLemmas.{has_filtered, has_kept, test_has}
 use Rattle.sqlite_rules.specs.Lists.{Has}
 use Rattle.sqlite_schema.specs.declared.schema.Index.{Index}
 use Rattle.sqlite_schema.specs.declared.schema.Schema.{Schema}
 use Rattle.sqlite_schema.specs.declared.schema.Table.{Table as SqlTable}
-use Rattle.store_house.proofs.ArrangedLemmas.{found_by_name, table_by_name}
-use Rattle.store_house.specs.Named.{IsArranged, IsReordered, house_names, house_trees}
+use Rattle.store_house.proofs.ArrangedLemmas.{found_by_name, table_by_name, not_by_name}
+use Rattle.store_house.specs.Named.{IsArranged, IsReordered, house_names, house_trees, trees_of}
 use Rattle.store_house.specs.Places.{tree_named, trees_named}
 use Rattle.store_rows.specs.House.{IsHouse}
-use Rattle.store_rows.specs.Schema.{band_table, bid_by_member, bid_table, category_table, edition_table, feedback_by_receiver, feedback_table, house_schema, house_table, item_by_category, item_by_end, item_by_leader, item_by_seller, item_table, later_band_table, member_table, question_by_asker, question_table, reserve_table, watch_table}
+use Rattle.store_rows.specs.Schema.{band_table, bid_by_member, bid_table, category_table, edition_table, feedback_by_receiver, feedback_table, house_schema, house_table, item_by_category, item_by_end, item_by_leader, item_by_seller, item_table, later_band_table, member_table, question_by_asker, question_table, reserve_table, watch_table, house_by, watch_by_item}
 use Rattle.tree_order.specs.Laws.{trees_at}
 use Rattle.tree_order.specs.NumberLaws.{number_back, number_past, other_way}
 use Rattle.tree_order.specs.Numbers.{AreInverse, number}
 use Rattle.tree_order.specs.Renumbered.{renumbered_trees}
 use Rattle.tree_order.specs.Rows.{in_order, is_table, renumbered_row, renumbered_rows, shifted}
 use Rattle.store_files.proofs.Orders.{stays_low}
+use Rattle.std.proofs.lemmas.Slice.Eq.{bytes_eq-Decides}
+use Rattle.sqlite_value.specs.declared.value.Value.{Value}
+use Rattle.std.specs.Str.{bytes_eq}
 
 -- ---- the trees of a house
 
@@ -50,20 +53,51 @@ module _ (inner outer : List ℕ) (h : AreInverse inner outer) (rows : List Row)
       let d = found.2.described in
       sym (found_by_name inner outer h rows table (list_parts out are.loads).1 found.0 (has_filtered is_index_row out found.0 found.1).0 i.tree d.low d.id i.name d.name_is other)
 
+-- ---- the name of an index that an older house doesn't have
+
+abbrev index_name : List ℕ
+index_name = codes "watch_by_item"
+
+another : (name : List ℕ) → not (bytes_eq name index_name) ≡ true → (v : Value) → v ≡ Text name → v ≡ Text index_name → ⊥
+another name other v is same =
+    let e : Text name ≡ Text index_name = sym is ∙ same in
+    let one : name ≡ index_name = cc in
+    true≢false (sym other ∙ ap not ((bytes_eq-Decides name index_name).1 one))
+
+other_names : (rows : List Row) → AreListed rows (house_by false) → (s : Row) → Has rows s → column s 2 ≡ Text index_name → ⊥
+other_names rows are s has named = elim (cases_Bool (is_table_row s)) [
+  | inl table ↦ (
+      let at = zipped_right IsTableRow (filter is_table_row rows) house_schema.tables s are.tables (has_kept is_table_row rows s has table) in
+      another at.0.name (test_has (λ (t : SqlTable). not (bytes_eq t.name index_name)) house_schema.tables at.0 refl at.1) (column s 2) at.2.described.name_is named)
+  | inr no_table ↦ elim (cases_Bool (is_view_row s)) [
+    | inl view ↦ absurd (zipped_right IsViewRow (filter is_view_row rows) [] s are.views (has_kept is_view_row rows s has view)).1
+    | inr no_view ↦ (
+        let index : is_index_row s ≡ true = rw (no_table, no_view) refl in
+        let at = zipped_right (IsIndexRow house_schema.tables) (filter is_index_row rows) (house_by false).indexes s are.indexes (has_kept is_index_row rows s has index) in
+        another at.0.name (test_has (λ (i : Index). not (bytes_eq i.name index_name)) (house_by false).indexes at.0 refl at.1) (column s 2) at.2.described.name_is named)
+  ]
+]
+
 next : {x y : ℕ} {xs ys : List ℕ} → x ≡ y → xs ≡ ys → x ∷ xs ≡ y ∷ ys
 next e more = ap₂ (λ z zs. z ∷ zs) e more
 
 -- the numbers of a house's trees
 abbrev pub house_places : List ℕ → List ℕ
-house_places numbers = map (number numbers) (range_with_len 0 27)
+house_places numbers = map (number numbers) (range_with_len 0 28)
 
--- the names find them
-pub names_find : (inner outer : List ℕ) → AreInverse inner outer → (rows : List Row) → IsShaped Table rows → AreListed (renumbered_rows outer rows) house_schema
-    → (below : Trees) → below catalog_tree ≡ rows → house_places inner ≡ house_trees below
+-- the names find them, and an index that is not there is said to be where it would be
+last_found : (inner outer : List ℕ) → AreInverse inner outer → (rows : List Row) → IsShaped Table rows → (b : Bool) → AreListed (renumbered_rows outer rows) (house_by b)
+    → length inner ≤ trees_of b → number inner 27 ≡ tree_named index_name 27 rows
+last_found inner outer h rows shape true are few = at_index inner outer h rows shape (house_by true) are watch_by_item (inr (inr (inr (inr (inr (inr (inr (inr (inr (inr (inr (inr (inr (inr (inr (inl refl)))))))))))))))) 27
+last_found inner outer h rows shape false are few =
+    number_past inner 27 (omega (arith, few)) ∙ sym (not_by_name inner outer h rows shape index_name 27 (other_names (renumbered_rows outer rows) are))
+
+pub names_find : (inner outer : List ℕ) → AreInverse inner outer → (rows : List Row) → IsShaped Table rows → (b : Bool) → AreListed (renumbered_rows outer rows) (house_by b)
+    → length inner ≤ trees_of b → (below : Trees) → below catalog_tree ≡ rows → house_places inner ≡ house_trees below
 unfolding house_names digits
-names_find inner outer h rows shape are below same =
-    let table = at_table inner outer h rows shape house_schema are in
-    let index = at_index inner outer h rows shape house_schema are in
+names_find inner outer h rows shape b are few below same =
+    let table = at_table inner outer h rows shape (house_by b) are in
+    let index = at_index inner outer h rows shape (house_by b) are in
     let found : house_places inner ≡ trees_named house_names 0 rows =
     (next (table house_table (inl refl) 0)
     (next (table band_table (inr (inl refl)) 1)
@@ -92,7 +126,8 @@ names_find inner outer h rows shape are below same =
     (next (table edition_table (inr (inr (inr (inr (inr (inr (inr (inr (inr (inr (inl refl))))))))))) 24)
     (next (table later_band_table (inr (inr (inr (inr (inr (inr (inr (inr (inr (inr (inr (inl refl)))))))))))) 25)
     (next (index (automatic later_band_table 0 (1 ∷ 2 ∷ []) 26) (inr (inr (inr (inr (inr (inr (inr (inr (inr (inr (inr (inr (inr (inr (inl refl))))))))))))))) 26)
-    refl))))))))))))))))))))))))))) in
+    (next (last_found inner outer h rows shape b are few)
+    refl)))))))))))))))))))))))))))) in
     found ∙ ap (trees_named house_names 0) (sym same)
 
 -- ---- lists that lead to the same numbers
@@ -127,29 +162,29 @@ same_trees inner outer more_inner more_outer agree back below = fun_ext (λ tree
   | inr other ↦ trees_at inner outer below tree other ∙ ap below (agree tree) ∙ sym (trees_at more_inner more_outer below tree other)
 ])
 
-places_long : (numbers : List ℕ) → length (house_places numbers) ≡ 27
+places_long : (numbers : List ℕ) → length (house_places numbers) ≡ 28
 places_long numbers = refl
 
 -- a list of no more numbers than those of a house leads where these lead
-places_at : (numbers : List ℕ) → length numbers ≤ 27 → (t : ℕ) → number (house_places numbers) t ≡ number numbers t
-places_at numbers few t = elim (cases_lt t 27) [
+places_at : (numbers : List ℕ) → length numbers ≤ 28 → (t : ℕ) → number (house_places numbers) t ≡ number numbers t
+places_at numbers few t = elim (cases_lt t 28) [
   | inl low ↦
-      get_or-map (number numbers) (range_with_len 0 27) t 0 t (omega (arith, length-range_with_len 0 27))
-      ∙ ap (number numbers) (omega (arith, get_or-range_with_len 0 27 t 0 low))
+      get_or-map (number numbers) (range_with_len 0 28) t 0 t (omega (arith, length-range_with_len 0 28))
+      ∙ ap (number numbers) (omega (arith, get_or-range_with_len 0 28 t 0 low))
   | inr past ↦ number_past (house_places numbers) t (omega (arith, places_long numbers)) ∙ sym (number_past numbers t (omega (arith, few)))
 ]
 
-places_inverse : (inner outer : List ℕ) → AreInverse inner outer → length inner ≤ 27 → AreInverse (house_places inner) (house_places outer)
+places_inverse : (inner outer : List ℕ) → AreInverse inner outer → length inner ≤ 28 → AreInverse (house_places inner) (house_places outer)
 places_inverse inner outer h few = record {
   few = omega (arith, places_long inner);
   same = refl;
-  low = λ t low. omega (arith, places_long inner, places_at inner few t, stays_low inner outer h 27 t few (omega (arith, places_long inner)));
+  low = λ t low. omega (arith, places_long inner, places_at inner few t, stays_low inner outer h 28 t few (omega (arith, places_long inner)));
   back = λ t low. places_at outer less (number (house_places inner) t) ∙ ap (number outer) (places_at inner few t) ∙ number_back inner outer h t;
-  high = λ t low. omega (arith, places_long inner, places_at outer less t, stays_low outer inner back 27 t less (omega (arith, places_long inner)));
+  high = λ t low. omega (arith, places_long inner, places_at outer less t, stays_low outer inner back 28 t less (omega (arith, places_long inner)));
   forth = λ t low. places_at inner few (number (house_places outer) t) ∙ ap (number inner) (places_at outer less t) ∙ number_back outer inner back t;
 }
   where
-    less : length outer ≤ 27
+    less : length outer ≤ 28
     less = omega (arith, h.same, few)
 
     back : AreInverse outer inner
@@ -157,13 +192,19 @@ places_inverse inner outer h few = record {
 
 -- ---- a house in any order
 
-pub arranged_by_names : (below : Trees) (db : Database) → IsShaped Table (below catalog_tree) → (order : IsReordered below db.trees) → length order.inner ≤ 27
-    → IsHouse db → IsArranged below db.trees
-arranged_by_names below db table order few house =
+no_more : (b : Bool) (n : ℕ) → n ≤ trees_of b → n ≤ 28
+no_more true n few = few
+no_more false n few = omega (arith, few)
+
+pub arranged_by_names : (below : Trees) (db : Database) → IsShaped Table (below catalog_tree) → (order : IsReordered below db.trees) → (house : IsHouse db)
+    → length order.inner ≤ trees_of house.is_indexed → IsArranged below db.trees
+arranged_by_names below db table order house within =
     let rows = below catalog_tree in
-    let less : length order.outer ≤ 27 = omega (arith, order.inverse.same, few) in
-    let listed : AreListed (renumbered_rows order.outer rows) house_schema =
-    subst (λ (d : Trees). AreListed (d catalog_tree) house_schema) order.shown (subst (AreListed (db.trees catalog_tree)) house.schema house.sound.lists.listed) in
+    let b = house.is_indexed in
+    let few : length order.inner ≤ 28 = no_more b (length order.inner) within in
+    let less : length order.outer ≤ 28 = omega (arith, order.inverse.same, few) in
+    let listed : AreListed (renumbered_rows order.outer rows) (house_by b) =
+    subst (λ (d : Trees). AreListed (d catalog_tree) (house_by b)) order.shown (subst (AreListed (db.trees catalog_tree)) house.schema house.sound.lists.listed) in
     record {
       order = record {
         inner = house_places order.inner;
@@ -172,5 +213,5 @@ arranged_by_names below db table order few house =
         shown = order.shown
             ∙ sym (same_trees (house_places order.inner) (house_places order.outer) order.inner order.outer (places_at order.inner few) (places_at order.outer less) below);
       };
-      named = names_find order.inner order.outer order.inverse rows table listed below refl;
+      named = names_find order.inner order.outer order.inverse rows table b listed within below refl;
     }

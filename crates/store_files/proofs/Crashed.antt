@@ -1,5 +1,5 @@
 -- What a crash leaves of the files of a keep in order, an opening of them finds by the names of the tables.
-use Rattle.std.proofs.Common.{◌≡◌, ◌∙◌, ap, refl, sym}
+use Rattle.std.proofs.Common.{◌≡◌, ◌∙◌, ap, refl, sym, subst}
 use Rattle.std.proofs.Math.Logic.{∥∥₁_elim, ∥∥₁_map}
 use Rattle.file_order.proofs.RecoveredLemmas.{are_databases, list_shaped}
 use Rattle.sqlite_disk.specs.declared.Disk.{Ghosts}
@@ -24,14 +24,15 @@ use Rattle.sqlite.specs.State.{State}
 use Rattle.tree_order.specs.Shown.{shown_trees}
 use Rattle.tree_order.specs.declared.renumbered.Renumbered.{Renumbered}
 use Rattle.store_rows.specs.House.{IsHouse}
-use Rattle.store_rows.specs.Schema.{house_schema}
 use Rattle.store_rows.specs.Tables.{IsAtRest, tables_in}
-use Rattle.store_house.proofs.ArrangedLemmas.{found_tables}
-use Rattle.store_house.specs.Named.{tables_held}
+use Rattle.store_house.proofs.ArrangedLemmas.{found_in_order}
+use Rattle.store_house.specs.Named.{tables_held, IsReordered}
 use Rattle.store.specs.Kept.{House, MayLeave, content}
 use Rattle.store.specs.Closing.{MayHold}
 use Rattle.store.specs.InOrder.{order_state, over_order}
 use Rattle.store_files.specs.InOrder.{IsCrashed}
+use Rattle.sqlite_catalog.specs.Listing.{IsSound}
+use Rattle.sqlite_schema.specs.declared.schema.Schema.{Schema}
 
 -- of a disk that was honest, what a crash leaves of the two files is what it leaves of the store
 may_leave_of : {D : Type 0} {g : Ghosts D} (it : FileStore D g) → IsClean (view it) → (left : Image) → outcomes g (files it).0 (files it).1 left
@@ -58,26 +59,28 @@ module _ {D : Type 0} {g : Ghosts D} (before : House (Renumbered (FileStore D g)
   abbrev pub shown : Trees → Trees
   shown = shown_trees before.conn.store.numbers
 
-  shown_house : (below : Trees) → recovers it below → IsHouse (record { schema = house_schema; trees = shown below })
+  shown_house : (below : Trees) → recovers it below → (house : Database) × IsHouse house × (shown below ≡ house.trees)
   shown_house below may = crashed.houses crashed.honest (shown below) (below, may, refl)
 
   -- each database that a crash may leave obeys a schema in the order of its file
   pub inner_databases : AreDatabases (recovers it)
   inner_databases =
       are_databases before.conn.store.numbers.inner.items before.conn.store.numbers.outer.items it before.conn.store.numbers.inverse crashed.numbered
-      (λ below may. (house_schema, (shown_house below may).sound, refl))
+      (λ below may.
+      let held = shown_house below may in
+      (held.0.schema, subst (IsSound held.0.schema) (sym held.2) held.1.sound, ap (λ (s : Schema). s.views) held.1.schema))
 
   -- and the names find the tables in it that are shown
   pub found_by_names : (below : Trees) → recovers it below → tables_held below ≡ tables_in (shown below)
   found_by_names below may =
-      sym (found_tables below (shown below) (list_shaped it below may)
-      (record {
+      let held = shown_house below may in
+      let order : IsReordered below (shown below) = record {
         inner = before.conn.store.numbers.inner.items;
         outer = before.conn.store.numbers.outer.items;
         inverse = before.conn.store.numbers.inverse;
         shown = refl;
-      })
-      (shown_house below may).sound.lists.listed)
+      } in
+      sym (ap tables_in held.2 ∙ found_in_order below held.0 (list_shaped it below may) (subst (IsReordered below) held.2 order) held.1)
 
   -- what is left holds one of them
   pub holds_left : MayHold before left

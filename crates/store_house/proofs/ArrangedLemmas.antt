@@ -1,5 +1,5 @@
 -- A house that is shown in its order is found by its names.
-use Rattle.std.proofs.Common.{◌≡◌, ◌<◌, ◌+◌, ◌∙◌, ℕ, suc, pos, true, cond, List, [], ◌∷◌, ◌++◌, map, filter, not, refl, sym, ap, subst, arith, inl, inr, true≢false, is_eq, lt-ltb, eqb}
+use Rattle.std.proofs.Common.{◌≡◌, ◌<◌, ◌+◌, ◌∙◌, ℕ, suc, pos, true, cond, List, [], ◌∷◌, ◌++◌, map, filter, not, refl, sym, ap, subst, arith, inl, inr, true≢false, is_eq, lt-ltb, eqb, Bool}
 use Rattle.std.specs.List.{list_any}
 use Rattle.std.proofs.lemmas.Bool.{and_parts, cases_Bool}
 use Rattle.std.proofs.lemmas.Cmp.{tied_itself}
@@ -29,7 +29,7 @@ use Rattle.store_house.specs.Named.{IsReordered, first_tables_held, house_names,
 use Rattle.store_house.specs.Opening.{first_tables_in}
 use Rattle.store_house.specs.Places.{by_names, tree_named, tree_or}
 use Rattle.store_rows.specs.House.{IsHouse}
-use Rattle.store_rows.specs.Schema.{band_table, bid_table, category_table, edition_table, feedback_table, first_schema, house_schema, house_table, item_table, later_band_table, member_table, question_table, reserve_table, watch_table}
+use Rattle.store_rows.specs.Schema.{band_table, bid_table, category_table, edition_table, feedback_table, first_schema, house_by, house_table, item_table, later_band_table, member_table, question_table, reserve_table, watch_table}
 use Rattle.store_rows.specs.Tables.{house_row_in, settings_in, tables_in}
 use Rattle.tree_order.specs.Numbers.{AreInverse, number}
 use Rattle.tree_order.specs.Renumbered.{renumbered_trees}
@@ -100,9 +100,24 @@ named_is name n other (x ∷ rows) low are r has is = elim (cases_Bool (is_word 
       ]
 ]
 
+-- where no row has the name, its tree is the one that is given
+none_has : (name : List ℕ) (other : ℕ) (rows : List Row) → ((r : Row) → Has rows r → column r 2 ≡ Text name → ⊥) → tree_named name other rows ≡ other
+none_has name other [] none = refl
+none_has name other (x ∷ rows) none = elim (cases_Bool (is_word name (column x 2))) [
+  | inl yes_it ↦ absurd (none x (inl refl) (text_is (column x 2) name yes_it))
+  | inr no_it ↦ ap (λ b. cond b (tree_or other (column x 0)) (tree_named name other rows)) no_it ∙ none_has name other rows (λ r has. none r (inr has))
+]
+
 module _ (inner outer : List ℕ) (h : AreInverse inner outer) (rows : List Row) (table : IsShaped Table rows) where
   abbrev out : List Row
   out = renumbered_rows outer rows
+
+  -- an object that the list in order doesn't have is not found
+  pub not_by_name : (name : List ℕ) (other : ℕ) → ((s : Row) → Has out s → column s 2 ≡ Text name → ⊥) → tree_named name other rows ≡ other
+  not_by_name name other none = none_has name other rows (λ x there same.
+      let from = from_out inner outer h rows table x there in
+      let its : column from.0 2 ≡ Text name = sym (column_kept inner from.0 1) ∙ ap (λ (row : Row). column row 2) (sym from.2) ∙ same in
+      none from.0 from.1 its)
 
   -- so the tree of an object is found by its name
   pub found_by_name : are_in_order [] (map (head_at 1) out) ≡ true → (s : Row) → Has out s → (tree : ℕ) → tree < 65536 → rowid s ≡ Int (pos (tree + 1))
@@ -138,14 +153,14 @@ unfolding tables_in settings_in house_row_in of_rows
 same_tables x y a b c d e f g h j k l m = λ i. tables_in (of_rows (a i) (b i) (c i) (d i) (e i) (f i) (g i) (h i) (j i) (k i) (l i) (m i))
 
 -- a house that is shown in its order has the tables that its names find
-pub found_tables : (below db : Trees) → IsShaped Table (below catalog_tree) → (order : IsReordered below db) → AreListed (db catalog_tree) house_schema
+pub found_tables : (below db : Trees) (b : Bool) → IsShaped Table (below catalog_tree) → (order : IsReordered below db) → AreListed (db catalog_tree) (house_by b)
     → tables_in db ≡ tables_held below
 unfolding house_names
-found_tables below db table order are =
+found_tables below db b table order are =
     let rows = below catalog_tree in
     let shown = order.shown in
-    let listed : AreListed (renumbered_rows order.outer rows) house_schema = subst (λ (d : Trees). AreListed (d catalog_tree) house_schema) shown are in
-    let at = table_by_name order.inner order.outer order.inverse rows table house_schema listed in
+    let listed : AreListed (renumbered_rows order.outer rows) (house_by b) = subst (λ (d : Trees). AreListed (d catalog_tree) (house_by b)) shown are in
+    let at = table_by_name order.inner order.outer order.inverse rows table (house_by b) listed in
     ap tables_in shown ∙ same_tables (renumbered_trees order.inner order.outer below) (by_names house_names below)
     (ap below (sym (at house_table (inl refl) 0)))
     (ap below (sym (at band_table (inr (inl refl)) 1)))
@@ -188,4 +203,4 @@ found_first_tables below db table order are =
 -- in a house that is shown in some order are the tables that its names find
 pub found_in_order : (below : Trees) (db : Database) → IsShaped Table (below catalog_tree) → IsReordered below db.trees → IsHouse db → tables_in db.trees ≡ tables_held below
 found_in_order below db table order house =
-    found_tables below db.trees table order (subst (AreListed (db.trees catalog_tree)) house.schema house.sound.lists.listed)
+    found_tables below db.trees house.is_indexed table order (subst (AreListed (db.trees catalog_tree)) house.schema house.sound.lists.listed)

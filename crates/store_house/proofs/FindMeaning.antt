@@ -18,8 +18,8 @@ FindsNumbered sql tree = Finds sql tree (equals 0 ∷ []) (col 1 0) (codes "id")
 
 pub has_member_is : FindsNumbered has_member_text 2
 unfolding understood everything
-has_member_is = (refl, refl, (refl, refl))
+has_member_is b = (refl, refl, (refl, refl))
 
 pub has_category_is : FindsNumbered has_category_text 4
 unfolding understood everything
-has_category_is = (refl, refl, (refl, refl))
+has_category_is b = (refl, refl, (refl, refl))

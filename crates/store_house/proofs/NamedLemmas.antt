@@ -1,5 +1,5 @@
 -- From a store to the same one in another order, and to a house in it.
-use Rattle.std.proofs.Common.{◌≡◌, ◌<◌, ◌≤◌, ◌+◌, ◌∙◌, ℕ, zero, suc, List, [], ◌∷◌, IsTrue, ap, ap₂, arith, cond, map, refl, subst, sym, take}
+use Rattle.std.proofs.Common.{◌≡◌, ◌<◌, ◌≤◌, ◌+◌, ◌∙◌, ℕ, zero, suc, List, [], ◌∷◌, IsTrue, ap, ap₂, arith, cond, map, refl, subst, sym, take, Bool}
 use Rattle.std.proofs.lemmas.List.{get_or_default, same_lists}
 use Rattle.sqlite.specs.Effect.{Database, IsDatabase}
 use Rattle.sqlite.specs.Held.{Held, state}
@@ -18,7 +18,7 @@ use Rattle.store_house.specs.Named.{FollowsInOrder, HoldsFirstHouse, HoldsHouse,
 use Rattle.store_house.specs.Opening.{Follows}
 use Rattle.store_house.specs.Places.{tree_named, tree_or, trees_named}
 use Rattle.store_rows.specs.House.{IsFirstHouse, IsHouse}
-use Rattle.store_rows.specs.Schema.{first_schema, house_schema}
+use Rattle.store_rows.specs.Schema.{first_schema, house_by}
 use Rattle.tree_order.specs.Laws.{listed_view, ordered_under}
 use Rattle.tree_order.specs.NumberLaws.{same_number}
 use Rattle.tree_order.specs.Numbers.{AreInverse, number}
@@ -183,8 +183,8 @@ module _ {S : Type 0} (g : Ghosts S) (given : Renumbered S) (db : Database) (tre
   ordered_in_order = ordered_under given.numbers.inner.items given.numbers.outer.items given.numbers.inverse (g.view given.inner) listed.itself.0 ordered
 
   -- a database over a store in the order of a house is one
-  pub house_shown : db.schema ≡ house_schema → IsHouse db
-  house_shown schema = house_from ((over_numbers g).view given) db schema trees sound listed_in_order ordered_in_order
+  pub house_shown : (b : Bool) → db.schema ≡ house_by b → IsHouse db
+  house_shown b schema = house_from ((over_numbers g).view given) db b schema trees sound listed_in_order ordered_in_order
 
   pub first_shown : db.schema ≡ first_schema → IsFirstHouse db
   first_shown schema = first_from ((over_numbers g).view given) db schema trees sound listed_in_order ordered_in_order

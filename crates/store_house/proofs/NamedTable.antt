@@ -1,5 +1,5 @@
 -- A table whose rows have a number and a name, as members and categories: what statements on it find and write.
-use Rattle.std.proofs.Common.{◌≡◌, ◌==◌, ℕ, ◌^◌, ◌<◌, pos, true, false, ◌&&◌, List, [], ◌∷◌, ◌++◌, map, filter, slice_get, drop, Ok, Some, refl, sym, ap, ap₂, subst, ◌∙◌, IsTrue, true≢false, IsUtf8, codes, All}
+use Rattle.std.proofs.Common.{◌≡◌, ◌==◌, ℕ, ◌^◌, ◌<◌, pos, true, false, ◌&&◌, List, [], ◌∷◌, ◌++◌, map, filter, slice_get, drop, Ok, Some, refl, sym, ap, ap₂, subst, ◌∙◌, IsTrue, true≢false, IsUtf8, codes, All, Bool}
 use Rattle.std.specs.List.{AllByRecursion}
 use Rattle.sqlite_value.specs.declared.value.Value.TheVariants.{Null, Int, Text}
 use Rattle.sqlite_value.specs.Order.{Row, column}
@@ -23,7 +23,7 @@ use Rattle.sqlite.proofs.Callers.{IsPlain, command_of}
 use Rattle.house_rows.specs.Text.{same_text}
 use Rattle.store_rows.specs.House.{IsHouse, KeepsOthers}
 use Rattle.store_rows.specs.Rows.{number_in, text_in}
-use Rattle.store_rows.specs.Schema.{Layout, house_schema, numbered, strict, table_of}
+use Rattle.store_rows.specs.Schema.{Layout, house_schema, numbered, strict, table_of, house_by}
 use Rattle.store_rows.proofs.RowLemmas.{is_text, text_if, equals_number, equals_text, alone, small}
 use Rattle.store_rows.proofs.TextLemmas.{text_back}
 use Rattle.store_rows.proofs.Select.{typed_where, typed_all, equals}
@@ -32,6 +32,7 @@ use Rattle.store_rows.proofs.Insert.{puts, put_over, cast_int, cast_null}
 use Rattle.store_house.specs.Found.{Lists}
 use Rattle.store_house.specs.Numbers.{IsTableTree, ShowsRows}
 use Rattle.store_house.proofs.NumbersLemmas.{answered}
+use Rattle.store_rows.specs.Statements.{AlwaysPlain}
 
 abbrev columns : List Column
 columns = strict (codes "id") kind.Integer false ∷ strict (codes "name") kind.Text true ∷ []
@@ -48,7 +49,7 @@ headings = codes "id" ∷ codes "name" ∷ []
 
 -- a query for the rows of a table that pass a test, by number
 abbrev pub Reads : List ℕ → ℕ → List Term → Type 0
-Reads sql tree test = ShowsRows sql tree test shown headings × IsPlain (understood house_schema sql)
+Reads sql tree test = ShowsRows sql tree test shown headings × AlwaysPlain sql
 
 -- an INSERT takes number and name as parameters
 abbrev put_terms : List Term
@@ -56,7 +57,7 @@ put_terms = col 0 0 ∷ lit Null ∷ col 0 1 ∷ []
 
 -- a statement that adds a row to the table at a place of the schema
 abbrev pub Puts : List ℕ → ℕ → Type 0
-Puts sql place = (command_of (understood house_schema sql) ≡ Insert place (Values put_terms 3)) × IsPlain (understood house_schema sql)
+Puts sql place = (b : Bool) → (command_of (understood (house_by b) sql) ≡ Insert place (Values put_terms 3)) × IsPlain (understood (house_by b) sql)
 
 -- the number is a number and the name a text
 abbrev IsRow : Row → Type 0
@@ -75,7 +76,7 @@ rows_are table rows ints typed present =
     one (id ∷ k ∷ v ∷ more) t p = text_if v (first_of_both _ _ (second_of_both _ _ (first_of_both _ _ t))) (first_of_both _ _ p)
 
 -- a house obeys its schema
-pub sound_house : (db : Database) → IsHouse db → IsSound house_schema db.trees
+pub sound_house : (db : Database) (house : IsHouse db) → IsSound (house_by house.is_indexed) db.trees
 sound_house db house = subst (λ h. IsSound h db.trees) house.schema house.sound
 
 -- such a table: its name, its tree and its place in the schema, which rows a house has in it, and what typed rows are made of
@@ -125,7 +126,7 @@ module _ {T : Type 0} (t : NamedTable T) (old new : State) where
       let rows = old.now.trees t.tree in
       let shaped = t.table.shaped old.now house in
       let given : Row = Int (pos number) ∷ Null ∷ Text name ∷ [] in
-      let w = rw (cast_int (pos number), cast_null) at (puts sql t.place (layout t.title t.tree) put_terms 3 (Int (pos number) ∷ Text name ∷ []) given t.placed is.0 is.1 refl old new count house.schema h) in
+      let w = rw (cast_int (pos number), cast_null) at (puts _ sql t.place (layout t.title t.tree) put_terms 3 (Int (pos number) ∷ Text name ∷ []) given t.placed (is _).0 (is _).1 refl old new count house.schema h) in
       record {
         house = still_house t.tree _ old.now new.now house w (IsShaped-put_row given rows refl shaped);
         others = w.others;

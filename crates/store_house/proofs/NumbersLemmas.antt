@@ -10,9 +10,7 @@ use Rattle.sqlite_sql.specs.Term.{Term, col}
 use Rattle.sqlite_trees.specs.Tree.{Trees, rowid}
 use Rattle.sqlite_trees.specs.View.{is_int}
 use Rattle.sqlite_trees.specs.declared.store.Store.{Ghosts}
-use Rattle.sqlite.specs.Given.{IsPlain}
 use Rattle.sqlite.specs.Held.{Held, state}
-use Rattle.sqlite.specs.Listing.{understood}
 use Rattle.sqlite.specs.State.{State, HasCleanDisk, IsUnchanged, KeepsCounts, Shown}
 use Rattle.sqlite.proofs.Callers.{reads_as}
 use Rattle.sqlite.proofs.StateLemmas.{survives_then}
@@ -23,7 +21,6 @@ use Rattle.store_rows.specs.Counts.{first_number}
 use Rattle.store_rows.specs.Frames.{Finds, OnlyReads}
 use Rattle.store_rows.specs.House.{IsHouse, KeepsCommitted}
 use Rattle.store_rows.specs.Plain.{passes, shown_by}
-use Rattle.store_rows.specs.Schema.{house_schema}
 use Rattle.store_rows.proofs.CountLemmas.{counted, every}
 use Rattle.store_rows.proofs.RowLemmas.{alone}
 use Rattle.store_rows.proofs.Select.{by_rowid, in_order, listed}
@@ -31,6 +28,7 @@ use Rattle.store_rows.proofs.Update.{none_there}
 use Rattle.store_house.specs.Numbers.{AreWithin, CountsRows, IsTableTree, ShowsNumbers, ShowsRows, is_above, is_below, row_number}
 use Rattle.store_house.specs.Opening.{IsCount}
 use Rattle.store_house.proofs.NumberLemmas.{number_between, number_within}
+use Rattle.store_rows.specs.Statements.{AlwaysPlain}
 
 abbrev shown : List Term
 shown = col 1 0 ∷ []
@@ -63,26 +61,26 @@ between n low (r ∷ table) all =
 
 module _ (tree : ℕ) (is : IsTableTree tree) (old new : State) (house : IsHouse old.now) where
   -- what a query shows
-  pub answered : (sql : List ℕ) (test terms : List Term) (names : List (List ℕ)) (params : Row) → IsPlain (understood house_schema sql) → ShowsRows sql tree test terms names
+  pub answered : (sql : List ℕ) (test terms : List Term) (names : List (List ℕ)) (params : Row) → AlwaysPlain sql → ShowsRows sql tree test terms names
       → (rows : List Row) → Shown sql params old new rows → rows ≡ map (shown_by terms params) (filter (passes test params) (old.now.trees tree))
   answered sql test terms names params plain shows rows h =
-      let read = reads_as sql params old new house_schema house.schema _ shows.0 plain shows.1 rows h in
+      let read = reads_as sql params old new _ house.schema _ (shows _).0 (plain _) (shows _).1 rows h in
       in_order test terms params (old.now.trees tree) rows (is.shaped old.now house).0 (rw (is.over old.now.trees) at (listed tree test terms by_rowid (overlay old.now.trees []) params rows (read.answer Null)))
 
   -- where no row is shown, none passes WHERE
-  pub none_pass : (sql : List ℕ) (test : List Term) (params : Row) → IsPlain (understood house_schema sql) → ShowsNumbers sql tree test → Shown sql params old new []
+  pub none_pass : (sql : List ℕ) (test : List Term) (params : Row) → AlwaysPlain sql → ShowsNumbers sql tree test → Shown sql params old new []
       → AllByRecursion (λ r. passes test params r ≡ false) (old.now.trees tree)
   none_pass sql test params plain shows h = none_there (passes test params) (old.now.trees tree) (no_map _ _ (answered sql test shown _ params plain shows [] h))
 
   -- and the other way round
-  pub none_shown : (sql : List ℕ) (test : List Term) (params : Row) → IsPlain (understood house_schema sql) → ShowsNumbers sql tree test
+  pub none_shown : (sql : List ℕ) (test : List Term) (params : Row) → AlwaysPlain sql → ShowsNumbers sql tree test
       → AllByRecursion (λ r. passes test params r ≡ false) (old.now.trees tree) → (rows : List Row) → Shown sql params old new rows → rows ≡ []
   none_shown sql test params plain shows none rows h = answered sql test shown _ params plain shows rows h ∙ ap (map (shown_by shown params)) (none_kept (passes test params) (old.now.trees tree) none)
 
-  pub rows_counted : (sql : List ℕ) → IsPlain (understood house_schema sql) → CountsRows sql tree → (rows : List Row) → Shown sql [] old new rows
+  pub rows_counted : (sql : List ℕ) → AlwaysPlain sql → CountsRows sql tree → (rows : List Row) → Shown sql [] old new rows
       → first_number rows ≡ Some (min (length (old.now.trees tree)) 9223372036854775807)
   rows_counted sql plain counts rows h =
-      let read = reads_as sql [] old new house_schema house.schema _ counts.0 plain counts.1 rows h in
+      let read = reads_as sql [] old new _ house.schema _ (counts _).0 (plain _) (counts _).1 rows h in
       ap first_number (rw (is.over old.now.trees) at (counted tree [] (overlay old.now.trees []) [] rows (read.answer Null)))
       ∙ ap (λ n. Some (min n 9223372036854775807)) (every [] (old.now.trees tree))
 

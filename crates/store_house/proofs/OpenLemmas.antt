@@ -21,7 +21,7 @@ use Rattle.sqlite.specs.Steps.{FailsToOpen}
 use Rattle.sqlite.specs.Effect.{Database, IsDatabase}
 use Rattle.sqlite_trees.specs.declared.store.Store.{Ghosts}
 use Rattle.sqlite.specs.Held.{Held, state}
-use Rattle.store_rows.specs.Schema.{first_schema, house_schema}
+use Rattle.store_rows.specs.Schema.{first_schema, house_by}
 use Rattle.store_house.specs.Opening.{Follows}
 use Rattle.store_rows.specs.House.{IsFirstHouse, IsHouse, KeepsCommitted}
 
@@ -37,8 +37,8 @@ module _ (v : View) (db : Database) (schema : Schema) (has : db.schema ≡ schem
       let laid = laid_out listed (objects_rise v listed ordered) here.lists.listed in
       subst (λ t. AllByRecursion (λ (table : SqlTable). IsShaped Table (t table.tree)) schema.tables) (sym trees) (each_shaped schema.tables laid.tables)
 
-pub house_from : (v : View) (db : Database) → db.schema ≡ house_schema → db.trees ≡ v.trees → IsDatabase db → IsListed (v.trees catalog_tree) v.shape v.reals → IsOrdered v.shape v.trees → IsHouse db
-house_from v db schema trees sound listed ordered = record { schema = schema; shaped = shaped_from v db house_schema schema trees sound listed ordered; sound = sound }
+pub house_from : (v : View) (db : Database) (b : Bool) → db.schema ≡ house_by b → db.trees ≡ v.trees → IsDatabase db → IsListed (v.trees catalog_tree) v.shape v.reals → IsOrdered v.shape v.trees → IsHouse db
+house_from v db b schema trees sound listed ordered = record { is_indexed = b; schema = schema; shaped = shaped_from v db (house_by b) schema trees sound listed ordered; sound = sound }
 
 pub first_from : (v : View) (db : Database) → db.schema ≡ first_schema → db.trees ≡ v.trees → IsDatabase db → IsListed (v.trees catalog_tree) v.shape v.reals → IsOrdered v.shape v.trees → IsFirstHouse db
 first_from v db schema trees sound listed ordered = record { schema = schema; shaped = shaped_from v db first_schema schema trees sound listed ordered; sound = sound }

@@ -14,7 +14,6 @@ use Rattle.sqlite.proofs.Callers.{reads_as}
 use Rattle.house_rows.specs.declared.people.Category.{Category}
 use Rattle.house_rows.specs.declared.people.Member.{Member}
 use Rattle.house_rows.proofs.Put.{by_test}
-use Rattle.store_rows.specs.Schema.{house_schema}
 use Rattle.store_rows.specs.House.{IsHouse}
 use Rattle.store_rows.specs.Rows.{categories_in, category_in, member_in, members_in, number_in}
 use Rattle.store_rows.proofs.RowLemmas.{equals_number, alone}
@@ -29,7 +28,7 @@ module _ (sql : List ℕ) (tree : ℕ) (is : FindsNumbered sql tree) (over : (db
   numbered_found n low old new answer house ints h =
       let params : Row = Int (pos n) ∷ [] in
       let table = old.now.trees tree in
-      let read = reads_as sql params old new house_schema house.schema _ is.0 is.2 is.1 answer h in
+      let read = reads_as sql params old new _ house.schema _ (is _).0 (is _).2 (is _).1 answer h in
       let listing = rw (over old.now.trees) at (listed tree (equals 0 ∷ []) (col 1 0 ∷ []) [] (overlay old.now.trees []) params answer (read.answer Null)) in
       let many = rows_kept (equals 0 ∷ []) (col 1 0 ∷ []) [] params table answer listing inside (λ (x : T). number x == n) (λ r. IsTrue (is_int (rowid r)))
       (λ r int. rw (equals_number (rowid r) n int low, first r) (alone _)) ints in

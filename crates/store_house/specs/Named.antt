@@ -1,5 +1,5 @@
 -- A house whose trees lie in any order, by the names in the list of objects.
-use Rattle.std.specs.Prelude.{◌≡◌, ◌⊎◌, ◌≤◌, IsTrue, ℕ, List, [], ◌∷◌, codes}
+use Rattle.std.specs.Prelude.{◌≡◌, ◌⊎◌, ◌≤◌, IsTrue, ℕ, List, [], ◌∷◌, codes, Bool, if◌then◌else◌}
 use Rattle.house_rows.specs.Tables.{Tables}
 use Rattle.sqlite.specs.Effect.{Database}
 use Rattle.sqlite.specs.Held.{Held, state}
@@ -29,7 +29,8 @@ house_names =
     ∷ codes "feedback" ∷ codes "sqlite_autoindex_feedback_1"
     ∷ codes "item_by_category" ∷ codes "item_by_seller" ∷ codes "item_by_leader" ∷ codes "item_by_end"
     ∷ codes "bid_by_member" ∷ codes "question_by_asker" ∷ codes "feedback_by_receiver"
-    ∷ codes "reserve" ∷ codes "edition" ∷ codes "later_band" ∷ codes "sqlite_autoindex_later_band_1" ∷ []
+    ∷ codes "reserve" ∷ codes "edition" ∷ codes "later_band" ∷ codes "sqlite_autoindex_later_band_1"
+    ∷ codes "watch_by_item" ∷ []
 
 -- where each of a house's trees lies in a database; one that is not listed has its own number
 abbrev pub house_trees : Trees → List ℕ
@@ -42,6 +43,10 @@ tables_held below = tables_in (by_names house_names below)
 -- and of a house of version 1
 abbrev pub first_tables_held : Trees → Tables
 first_tables_held below = first_tables_in (by_names house_names below)
+
+-- how many trees a house has: the last is its index of watches by item, which an older house lacks
+abbrev pub trees_of : Bool → ℕ
+trees_of is_indexed = if is_indexed then 28 else 27
 
 -- the trees are those of a database in some order
 pub record IsReordered (below db : Trees) : Type 0 where

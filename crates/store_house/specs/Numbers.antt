@@ -1,5 +1,5 @@
 -- The numbers of a table's rows, which are their rowids, and statements on these.
-use Rattle.std.specs.Prelude.{◌≡◌, ℕ, pos, false, codes, List, [], ◌∷◌}
+use Rattle.std.specs.Prelude.{◌≡◌, ℕ, pos, false, codes, List, [], ◌∷◌, Bool}
 use Rattle.std.specs.List.{AllByRecursion}
 use Rattle.sqlite_value.specs.Order.{Row}
 use Rattle.sqlite_value.specs.declared.keys.Collation.TheVariants.{Binary}
@@ -19,7 +19,7 @@ use Rattle.house_rows.specs.Fits.{IsWithin}
 use Rattle.store_rows.specs.House.{IsHouse}
 use Rattle.store_rows.specs.Plain.{plain_query}
 use Rattle.store_rows.specs.Rows.{number_in}
-use Rattle.store_rows.specs.Schema.{house_schema}
+use Rattle.store_rows.specs.Schema.{house_by}
 use Rattle.store_rows.proofs.CountMeaning.{count_query}
 use Rattle.store_rows.proofs.Select.{by_rowid}
 
@@ -45,9 +45,9 @@ is_above = op2 (Compare Gt Binary) (col 1 0) (col 0 0) ∷ []
 
 -- a query shows terms of the rows of a table that pass a test, in the order of their numbers
 abbrev pub ShowsRows : List ℕ → ℕ → List Term → List Term → List (List ℕ) → Type 0
-ShowsRows sql tree test shown names =
-    (command_of (understood house_schema sql) ≡ Select (record { lets = []; body = plain_query tree test shown by_rowid }) names)
-    × (reads_listing house_schema sql ≡ false)
+ShowsRows sql tree test shown names = (b : Bool) →
+    (command_of (understood (house_by b) sql) ≡ Select (record { lets = []; body = plain_query tree test shown by_rowid }) names)
+    × (reads_listing (house_by b) sql ≡ false)
 
 -- it shows their numbers
 abbrev pub ShowsNumbers : List ℕ → ℕ → List Term → Type 0
@@ -55,6 +55,6 @@ ShowsNumbers sql tree test = ShowsRows sql tree test (col 1 0 ∷ []) (codes "id
 
 -- a query counts the rows of a table
 abbrev pub CountsRows : List ℕ → ℕ → Type 0
-CountsRows sql tree =
-    (command_of (understood house_schema sql) ≡ Select (record { lets = []; body = count_query tree [] }) (codes "count(*)" ∷ []))
-    × (reads_listing house_schema sql ≡ false)
+CountsRows sql tree = (b : Bool) →
+    (command_of (understood (house_by b) sql) ≡ Select (record { lets = []; body = count_query tree [] }) (codes "count(*)" ∷ []))
+    × (reads_listing (house_by b) sql ≡ false)

@@ -22,7 +22,7 @@ use Rattle.store_rows.specs.ItemRows.{items_by}
 use Rattle.store_rows.specs.Rows.{bands_in, categories_in, edition_rows_in, houses_in, later_bands_in, members_in, reserves_in}
 use Rattle.store_rows.specs.declared.reserve.ReserveRow.{ReserveRow}
 use Rattle.store_rows.specs.Commits.{IsBack}
-use Rattle.store_rows.specs.Schema.{first_schema}
+use Rattle.store_rows.specs.Schema.{first_schema, house_schema}
 use Rattle.store_rows.specs.Tables.{editions_in, house_row_in, settings_in, tables_in}
 
 -- members, categories and items have numbers from 1 to how many there are, which has 32 bits; that is so whatever reserves there are
@@ -137,11 +137,12 @@ abbrev pub version_in : Trees → Option ℕ
 version_in db = option_map (λ h. h.version) (find (λ h. h.id == 1) (houses_in db))
 
 -- A house of version 1 is made one of version 2: its row has the version, the three new tables have
--- no row, and the others have those that they had.
+-- no row, the others have those that they had, and watches have an index by item.
 pub record Upgrades (old : Trees) (new : Database) : Type 0 where
   pub was : (first : Database) × IsFirstHouse first × (first.trees ≡ old)
   pub version : version_in old ≡ Some 1
   pub house : IsHouse new
+  pub indexed : new.schema ≡ house_schema
   pub houses : houses_in new.trees ≡ map (with_version 2) (houses_in old)
   pub others : AllByRecursion (λ t. t.tree ≢ 0 → new.trees t.tree ≡ old t.tree) first_schema.tables
   pub reserves : new.trees 23 ≡ []

@@ -12,18 +12,18 @@ ghost use Rattle.sqlite_trees.specs.View.{IsClean, IsShaped};
 ghost use Rattle.sqlite_trees.specs.declared.store.Shape.TheVariants.{Table};
 ghost use Rattle.store_house.specs.Named.{FollowsInOrder, HoldsFirstHouse, HoldsHouse, IsArranged};
 ghost use Rattle.store_house.specs.Named.{IsReordered, house_names, house_trees, tables_held};
-ghost use Rattle.store_rows.specs.House.{IsFirstHouse, IsHouse};
-ghost use Rattle.store_rows.specs.Schema.{first_schema, house_schema};
+ghost use Rattle.store_rows.specs.House.{IsFirstHouse, IsHouse, IsHouseSchema};
+ghost use Rattle.store_rows.specs.Schema.{first_schema};
 ghost use Rattle.store_rows.specs.Tables.{tables_in};
 ghost use Rattle.tree_order.specs.Numbers.{AreInverse};
 ghost use Rattle.store_house.specs.Over.{over_numbers};
 
 use crate::places::trees_named;
-use crate::schemas::{is_first_schema, is_made_by};
+use crate::schemas::{is_first_schema, is_house_schema};
 use house_rows::KeepFault;
 use sqlite::{Alter, Connection, Error, ErrorCode};
 use std::alloc::Global;
-use store_rows::{STEPS, fault_of};
+use store_rows::fault_of;
 use tree_order::{Numbers, Renumbered};
 
 /// A house that is shown in its order has the tables that are found by their names.
@@ -34,7 +34,7 @@ pub fn names_find_tables()
 
 // The names of a house's trees, in the order of their numbers.
 #[tactic(auto, unfolding(crate::specs::Named::house_names))]
-fn house_names() -> [&'static str; 27]
+fn house_names() -> [&'static str; 28]
     ensures { map (λ name. name.now) result ≡ house_names }
 {
     [
@@ -65,6 +65,7 @@ fn house_names() -> [&'static str; 27]
         "edition",
         "later_band",
         "sqlite_autoindex_later_band_1",
+        "watch_by_item",
     ]
 }
 
@@ -105,7 +106,7 @@ fn arranged_anew<S: Alter + Drop>(
     conn: Connection<S>,
 ) -> Result<Connection<Renumbered<S>>, (KeepFault, Renumbered<S>)>
     ensures house { IfOk result (λ c. HasCleanDisk (state (over_numbers S.Store) c)
-        → (state (over_numbers S.Store) c).now.schema ≡ house_schema
+        → IsHouseSchema (state (over_numbers S.Store) c).now.schema
         → IsHouse (state (over_numbers S.Store) c).now) }
     ensures first { IfOk result (λ c. HasCleanDisk (state (over_numbers S.Store) c)
         → (state (over_numbers S.Store) c).now.schema ≡ first_schema
@@ -159,7 +160,7 @@ pub fn house_by_names<S: Alter + Drop>(
         → ¬ (HoldsHouse (state S.Store conn).committed.trees)) }
 {
     let again = arranged_anew(alloc, conn)?;
-    let is_house = match is_made_by(alloc, again.schema(), STEPS) {
+    let is_house = match is_house_schema(alloc, again.schema()) {
         Ok(is_house) => is_house,
         Err(fault) => return Err((fault, again.into_store())),
     };

@@ -1,15 +1,13 @@
 //! Typed rows of a house, as a query finds them.
 ghost use Rattle.std.specs.Prelude.{◌≡◌, Bool, List, filter, find, IfOk, IfSome};
 ghost use Rattle.std.specs.List.{AllByRecursion};
-ghost use Rattle.sqlite.specs.Given.{IsPlain};
 ghost use Rattle.sqlite.specs.Held.{state};
-ghost use Rattle.sqlite.specs.Listing.{understood};
 ghost use Rattle.sqlite.specs.Values.{bound};
 ghost use Rattle.sqlite_trees.specs.Tree.{Trees};
 ghost use Rattle.store_house.specs.Found.{Lists};
 ghost use Rattle.store_rows.specs.Frames.{Finds};
 ghost use Rattle.store_rows.specs.House.{Serves};
-ghost use Rattle.store_rows.specs.Schema.{house_schema};
+ghost use Rattle.store_rows.specs.Statements.{AlwaysPlain};
 
 use house_rows::KeepFault;
 use sqlite::types::ValueRef;
@@ -24,7 +22,7 @@ pub(crate) fn row_found<S: Alter, T: Stored>(
     params: &[ValueRef<'_>],
 ) -> Result<Option<T>, KeepFault>
     requires serves { Serves (state S.Store conn.old) }
-    requires plain { IsPlain (understood house_schema sql.now) }
+    requires plain { AlwaysPlain sql.now }
     ensures finds { (table : Trees → List T) (keep : T → Bool)
         → Lists (state S.Store conn.old) (state S.Store conn.new) sql.now (bound params.now) T.report
         (λ db. filter keep (table db))
@@ -44,7 +42,7 @@ pub(crate) fn rows_found<S: Alter, T: Stored>(
     params: &[ValueRef<'_>],
 ) -> Result<Vec<T>, KeepFault>
     requires serves { Serves (state S.Store conn.old) }
-    requires plain { IsPlain (understood house_schema sql.now) }
+    requires plain { AlwaysPlain sql.now }
     ensures finds { (table : Trees → List T)
         → Lists (state S.Store conn.old) (state S.Store conn.new) sql.now (bound params.now) T.report
         table

@@ -2,19 +2,17 @@
 ghost use Rattle.std.specs.Prelude.{◌≡◌, ◌<◌, ◌^◌, ℕ, ⊤, List, [], length, min};
 ghost use Rattle.std.specs.Prelude.{IfOk, OnOk, IsErrOf};
 ghost use Rattle.sqlite_value.specs.Order.{Row};
-ghost use Rattle.sqlite.specs.Given.{IsPlain};
 ghost use Rattle.sqlite.specs.Held.{state};
-ghost use Rattle.sqlite.specs.Listing.{understood};
 ghost use Rattle.sqlite.specs.State.{HasCleanDisk, Shown};
 ghost use Rattle.sqlite.specs.Values.{bound};
 ghost use Rattle.house_rows.specs.declared.fault.KeepFault.TheVariants.{Damaged};
 ghost use Rattle.store_rows.specs.House.{IsHouse, Serves};
 ghost use Rattle.store_rows.specs.Counts.{most_counted};
-ghost use Rattle.store_rows.specs.Schema.{house_schema};
 ghost use Rattle.store_house.specs.Numbers.{AreWithin, CountsRows, IsTableTree, ShowsNumbers};
 ghost use Rattle.store_house.specs.Numbers.{is_above, is_below, row_number};
 ghost use Rattle.store_house.specs.Opening.{AreNumbered, HaveNumbers, IsCount};
 ghost use Rattle.store_rows.specs.Frames.{Finds, OnlyReads};
+ghost use Rattle.store_rows.specs.Statements.{AlwaysPlain};
 
 use house_rows::{Counts, KeepFault};
 use sqlite::types::ValueRef;
@@ -28,7 +26,7 @@ fn shows_none<S: Alter>(
     params: &[ValueRef<'_>],
 ) -> Result<(), KeepFault>
     requires serves { Serves (state S.Store conn.old) }
-    requires plain { IsPlain (understood house_schema sql.now) }
+    requires plain { AlwaysPlain sql.now }
     ensures house { HasCleanDisk (state S.Store conn.new) → IsHouse (state S.Store conn.old).now }
     ensures none { HasCleanDisk (state S.Store conn.new)
         → OnOk result (Shown sql.now (bound params.now) (state S.Store conn.old)
@@ -61,7 +59,7 @@ fn small(count: u64) -> Result<u32, KeepFault>
 // How many rows a table has.
 fn count_rows<S: Alter>(conn: &mut Connection<S>, sql: &str) -> Result<u64, KeepFault>
     requires serves { Serves (state S.Store conn.old) }
-    requires plain { IsPlain (understood house_schema sql.now) }
+    requires plain { AlwaysPlain sql.now }
     ensures finds { (tree : ℕ) → IsTableTree tree → CountsRows sql.now tree
         → Finds S.Store conn.old conn.new result
         (λ db n. n ≡ min (length (db tree)) most_counted) (λ _. ⊤) }
@@ -79,8 +77,8 @@ fn check_numbers<S: Alter>(
     most: u32,
 ) -> Result<(), KeepFault>
     requires serves { Serves (state S.Store conn.old) }
-    requires plain { IsPlain (understood house_schema below.now)
-        × IsPlain (understood house_schema above.now) }
+    requires plain { AlwaysPlain below.now
+        × AlwaysPlain above.now }
     ensures finds { (tree : ℕ) → IsTableTree tree → ShowsNumbers below.now tree is_below
         → ShowsNumbers above.now tree is_above → Finds S.Store conn.old conn.new result
         (λ db _. AreWithin most (db tree)) (λ db. AreWithin most (db tree)) }
@@ -98,8 +96,8 @@ fn count_numbered<S: Alter>(
     above: &str,
 ) -> Result<u32, KeepFault>
     requires serves { Serves (state S.Store conn.old) }
-    requires plain { IsPlain (understood house_schema count.now)
-        × IsPlain (understood house_schema below.now) × IsPlain (understood house_schema above.now) }
+    requires plain { AlwaysPlain count.now
+        × AlwaysPlain below.now × AlwaysPlain above.now }
     ensures finds { (tree : ℕ) → IsTableTree tree → CountsRows count.now tree
         → ShowsNumbers below.now tree is_below → ShowsNumbers above.now tree is_above
         → Finds S.Store conn.old conn.new result (λ db n. IsCount n row_number (db tree))

@@ -22,7 +22,6 @@ use Rattle.store_rows.specs.declared.reserve.ReserveRow.{ReserveRow}
 use Rattle.store_rows.specs.ItemRows.{amount_of, item_columns, item_of, item_row_in, items_in, kept_from, terms_of}
 use Rattle.store_rows.specs.Plain.{passes, shown_by}
 use Rattle.store_rows.specs.Rows.{maybe_number_in, number_in, reserves_in}
-use Rattle.store_rows.specs.Schema.{house_schema}
 use Rattle.store_rows.proofs.Select.{by_rowid, equals, in_order, listed}
 use Rattle.store_rows.proofs.Update.{numbered_passes}
 use Rattle.store_items.specs.Standing.{ItemHolds, TermsHold, is_at_most, is_bought, is_price, is_reserve, is_reported, is_consistent}
@@ -107,7 +106,7 @@ pub items_hold : (old new : State) (answer : List Row) → IsHouse old.now → (
     → AllByRecursion (ItemHolds editions (reserves_in old.now.trees)) answer
 items_hold old new answer house editions fit h =
     let reserves : List ReserveRow = reserves_in old.now.trees in
-    let read = reads_as all_items_text [] old new house_schema house.schema _ all_items_is.0 all_items_is.2 all_items_is.1 answer h in
+    let read = reads_as all_items_text [] old new _ house.schema _ (all_items_is _).0 (all_items_is _).2 (all_items_is _).1 answer h in
     let order = in_order [] item_shown [] (old.now.trees 6) answer house.shaped.1.1.1.1.0.0 (listed 6 [] item_shown by_rowid (overlay old.now.trees []) [] answer (read.answer Null)) in
     rows_hold editions reserves (ItemHolds editions reserves) item_shown [] [] (old.now.trees 6) answer (item_row editions reserves []) order fit
 
@@ -137,7 +136,7 @@ terms_here old new answer house editions n low h fit =
     let make : Row → ItemRow = item_row_in reserves in
     let table = old.now.trees 6 in
     let kept = filter (passes (equals 0 ∷ []) params) table in
-    let read = reads_as auction_at_text params old new house_schema house.schema _ auction_at_is.0 auction_at_is.2 auction_at_is.1 answer h in
+    let read = reads_as auction_at_text params old new _ house.schema _ (auction_at_is _).0 (auction_at_is _).2 (auction_at_is _).1 answer h in
     let order = in_order (equals 0 ∷ []) terms_shown params table answer house.shaped.1.1.1.1.0.0 (listed 6 (equals 0 ∷ []) terms_shown by_rowid (overlay old.now.trees []) params answer (read.answer Null)) in
     let fits = kept_fit reserves (FitsBy editions) n low table (are_rows old.now house) (all_unmap (λ (row : ItemRow). row.item.terms.item ≡ n → FitsBy editions row) make table fit) in
     let hold = all_map (TermsHold editions reserves) (shown_by terms_shown params) kept (all_weaker (λ r. FitsBy editions (make r)) (λ r. TermsHold editions reserves (shown_by terms_shown params r)) (terms_row editions reserves params) kept fits) in
@@ -151,7 +150,7 @@ item_here old new answer house editions n low h fit =
     let make : Row → ItemRow = item_row_in reserves in
     let table = old.now.trees 6 in
     let kept = filter (passes (equals 0 ∷ []) params) table in
-    let read = reads_as item_at_text params old new house_schema house.schema _ item_at_is.0 item_at_is.2 item_at_is.1 answer h in
+    let read = reads_as item_at_text params old new _ house.schema _ (item_at_is _).0 (item_at_is _).2 (item_at_is _).1 answer h in
     let order = in_order (equals 0 ∷ []) item_shown params table answer house.shaped.1.1.1.1.0.0 (listed 6 (equals 0 ∷ []) item_shown by_rowid (overlay old.now.trees []) params answer (read.answer Null)) in
     let fits = kept_fit reserves (FitsBy editions) n low table (are_rows old.now house) (all_unmap (λ (row : ItemRow). row.item.terms.item ≡ n → FitsBy editions row) make table fit) in
     let hold = all_map (ItemHolds editions reserves) (shown_by item_shown params) kept (all_weaker (λ r. FitsBy editions (make r)) (λ r. ItemHolds editions reserves (shown_by item_shown params r)) (item_row editions reserves params) kept fits) in

@@ -29,7 +29,7 @@ use Rattle.house_rows.specs.Found.{auction_of}
 use Rattle.house_rows.specs.Limits.{most_cents}
 use Rattle.house_rows.specs.Tables.{ItemRow}
 use Rattle.house_rows.specs.Text.{same_text}
-use Rattle.store_rows.specs.Schema.{house_schema, item_table, item_layout}
+use Rattle.store_rows.specs.Schema.{item_layout, item_table}
 use Rattle.store_rows.specs.Rows.{number_in, maybe_number_in, reserves_in}
 use Rattle.store_rows.specs.ItemRows.{amount_of, auction_by, is_state, item_by, kept_from, item_row_in, items_in, met_with}
 use Rattle.store_rows.specs.House.{IsHouse}
@@ -117,7 +117,7 @@ module _ (old new : State) (answer : List Row) (house : IsHouse old.now) where
   pub first_item : (n : ℕ) → n < 2 ^ 32 → Shown item_at_text (Int (pos n) ∷ []) old new answer → option_map (item_by (reserves_in old.now.trees)) (slice_get answer 0) ≡ option_map (λ (row : ItemRow). row.item) (find (is_item n) (items_in old.now.trees))
   first_item n low h =
       let params = Int (pos n) ∷ [] in
-      let read = reads_as item_at_text params old new house_schema house.schema _ item_at_is.0 item_at_is.2 item_at_is.1 answer h in
+      let read = reads_as item_at_text params old new _ house.schema _ (item_at_is _).0 (item_at_is _).2 (item_at_is _).1 answer h in
       let order = in_order (equals 0 ∷ []) item_shown params rows answer house.shaped.1.1.1.1.0.0 (listed 6 (equals 0 ∷ []) item_shown by_rowid (overlay old.now.trees []) params answer (read.answer Null)) in
       first_part (item_by (reserves_in old.now.trees)) (λ (row : ItemRow). row.item) (is_item n) answer (items_in old.now.trees)
       (typed_part (item_by (reserves_in old.now.trees)) (row_of old) (λ (row : ItemRow). row.item) (is_item n) IsRow (equals 0 ∷ []) item_shown params rows answer (λ r. refl) (λ r is. rw (equals_number (rowid r) n is.number low) (alone _)) (are_rows old.now house) order)
@@ -125,7 +125,7 @@ module _ (old new : State) (answer : List Row) (house : IsHouse old.now) where
   pub first_auction : (n : ℕ) → n < 2 ^ 32 → Shown auction_at_text (Int (pos n) ∷ []) old new answer → option_map (auction_by (reserves_in old.now.trees)) (slice_get answer 0) ≡ option_map auction_of (find (is_item n) (items_in old.now.trees))
   first_auction n low h =
       let params = Int (pos n) ∷ [] in
-      let read = reads_as auction_at_text params old new house_schema house.schema _ auction_at_is.0 auction_at_is.2 auction_at_is.1 answer h in
+      let read = reads_as auction_at_text params old new _ house.schema _ (auction_at_is _).0 (auction_at_is _).2 (auction_at_is _).1 answer h in
       let order = in_order (equals 0 ∷ []) terms_shown params rows answer house.shaped.1.1.1.1.0.0 (listed 6 (equals 0 ∷ []) terms_shown by_rowid (overlay old.now.trees []) params answer (read.answer Null)) in
       first_part (auction_by (reserves_in old.now.trees)) auction_of (is_item n) answer (items_in old.now.trees)
       (typed_part (auction_by (reserves_in old.now.trees)) (row_of old) auction_of (is_item n) IsRow (equals 0 ∷ []) terms_shown params rows answer (λ r. refl) (λ r is. rw (equals_number (rowid r) n is.number low) (alone _)) (are_rows old.now house) order)
@@ -135,7 +135,7 @@ module _ (old new : State) (answer : List Row) (house : IsHouse old.now) where
   first_with_lot seller lot u low h =
       let params = Int (pos seller) ∷ Text lot ∷ [] in
       let keep : ItemRow → Bool = λ row. (row.item.terms.seller == seller) && same_text row.item.lot lot in
-      let read = reads_as with_lot_text params old new house_schema house.schema _ with_lot_is.0 with_lot_is.2 with_lot_is.1 answer h in
+      let read = reads_as with_lot_text params old new _ house.schema _ (with_lot_is _).0 (with_lot_is _).2 (with_lot_is _).1 answer h in
       let order = in_order by_lot (Rattle.sqlite.specs.Term.col 1 0 ∷ []) params rows answer house.shaped.1.1.1.1.0.0 (listed 6 by_lot (Rattle.sqlite.specs.Term.col 1 0 ∷ []) by_rowid (overlay old.now.trees []) params answer (read.answer Null)) in
       first_part (λ r. number_in (column r 0)) (λ (row : ItemRow). row.item.terms.item) keep answer (items_in old.now.trees)
       (typed_part (λ r. number_in (column r 0)) (row_of old) (λ (row : ItemRow). row.item.terms.item) keep IsRow by_lot (Rattle.sqlite.specs.Term.col 1 0 ∷ []) params rows answer (λ r. refl)
@@ -143,7 +143,7 @@ module _ (old new : State) (answer : List Row) (house : IsHouse old.now) where
 
   pub items_answer : Shown all_items_text [] old new answer → map (item_by (reserves_in old.now.trees)) answer ≡ map (λ (row : ItemRow). row.item) (items_in old.now.trees)
   items_answer h =
-      let read = reads_as all_items_text [] old new house_schema house.schema _ all_items_is.0 all_items_is.2 all_items_is.1 answer h in
+      let read = reads_as all_items_text [] old new _ house.schema _ (all_items_is _).0 (all_items_is _).2 (all_items_is _).1 answer h in
       let order = in_order [] item_shown [] rows answer house.shaped.1.1.1.1.0.0 (listed 6 [] item_shown by_rowid (overlay old.now.trees []) [] answer (read.answer Null)) in
       typed_part (item_by (reserves_in old.now.trees)) (row_of old) (λ (row : ItemRow). row.item) (λ _. true) IsRow [] item_shown [] rows answer (λ r. refl) (λ r is. refl) (are_rows old.now house) order
       ∙ ap (map (λ (row : ItemRow). row.item)) (every (items_in old.now.trees))
@@ -178,7 +178,7 @@ adds_item old new number item count low lot_utf8 title_utf8 text_utf8 house h =
     ∷ Int (pos 0) ∷ Null ∷ Int (pos item.start) ∷ Null ∷ Null ∷ Null ∷ Int (pos 0) ∷ [] in
     let shaped = house.shaped.1.1.1.1.0 in
     let w = rw (cast_int (pos number), cast_null, cast_int (pos item.seller), cast_int (pos item.category), cast_int (pos item.start), cast_maybe item.buy_now, cast_int (pos item.end), cast_int (pos 0)) at
-    (puts put_item_text 4 item_layout put_terms 17 params given refl put_item_is.0 put_item_is.1 refl old new count house.schema h) in
+    (puts _ put_item_text 4 item_layout put_terms 17 params given refl (put_item_is _).0 (put_item_is _).1 refl old new count house.schema h) in
     let reserves = reserves_in old.now.trees in
     let make = item_row_in reserves in
     let same : reserves_in new.now.trees ≡ reserves = kept_reserves old.now new.now w.others in
@@ -311,8 +311,8 @@ pub sets_standing : (old new : State) (item : ℕ) (k : Kept) (count : ℕ) → 
     → Executes set_standing_text (Int (pos item) ∷ Int (pos k.price) ∷ stored_maybe k.leader ∷ stored_maybe k.top ∷ stored_maybe k.second ∷ Int (pos k.count) ∷ []) old new (Ok count) → SetsStanding item k old.now new.now
 sets_standing old new item k count house low kept_low h =
     let rows = old.now.trees 6 in
-    let w = updates set_standing_text 4 item_layout standing_set item (Int (pos k.price) ∷ stored_maybe k.leader ∷ stored_maybe k.top ∷ stored_maybe k.second ∷ Int (pos k.count) ∷ []) low refl (λ db. refl)
-    set_standing_is.0 set_standing_is.1 (stood k) (λ r. refl) (λ r. refl) IsTyped (stood_stays k) old new count house.schema house.shaped.1.1.1.1.0 (are_typed_rows old.now house) h in
+    let w = updates _ set_standing_text 4 item_layout standing_set item (Int (pos k.price) ∷ stored_maybe k.leader ∷ stored_maybe k.top ∷ stored_maybe k.second ∷ Int (pos k.count) ∷ []) low refl (λ db. refl)
+    (set_standing_is _).0 (set_standing_is _).1 (stood k) (λ r. refl) (λ r. refl) IsTyped (stood_stays k) old new count house.schema house.shaped.1.1.1.1.0 (are_typed_rows old.now house) h in
     record {
       house = still_house 6 _ old.now new.now house w.0 w.1;
       others = w.0.others;
@@ -347,8 +347,8 @@ pub sets_bought : (old new : State) (item buyer at moment count : ℕ) → IsHou
     → Executes set_bought_text (Int (pos item) ∷ Int (pos moment) ∷ Int (pos at) ∷ Int (pos buyer) ∷ []) old new (Ok count) → SetsBought item buyer at moment old.now new.now
 sets_bought old new item buyer at moment count house low buyer_low at_low moment_low h =
     let rows = old.now.trees 6 in
-    let w = updates set_bought_text 4 item_layout bought_set item (Int (pos moment) ∷ Int (pos at) ∷ Int (pos buyer) ∷ []) low refl (λ db. refl)
-    set_bought_is.0 set_bought_is.1 (sold_at_once buyer at moment) (λ r. refl) (λ r. refl) IsTyped (sold_stays buyer at moment) old new count house.schema house.shaped.1.1.1.1.0 (are_typed_rows old.now house) h in
+    let w = updates _ set_bought_text 4 item_layout bought_set item (Int (pos moment) ∷ Int (pos at) ∷ Int (pos buyer) ∷ []) low refl (λ db. refl)
+    (set_bought_is _).0 (set_bought_is _).1 (sold_at_once buyer at moment) (λ r. refl) (λ r. refl) IsTyped (sold_stays buyer at moment) old new count house.schema house.shaped.1.1.1.1.0 (are_typed_rows old.now house) h in
     record {
       house = still_house 6 _ old.now new.now house w.0 w.1;
       others = w.0.others;
@@ -390,8 +390,8 @@ pub sets_closed : (old new : State) (item : ℕ) (is_sold : Bool) (count : ℕ) 
     → Executes set_closed_text (Int (pos item) ∷ Int (pos (closed_state is_sold)) ∷ []) old new (Ok count) → SetsClosed item is_sold old.now new.now
 sets_closed old new item is_sold count house low h =
     let rows = old.now.trees 6 in
-    let w = updates set_closed_text 4 item_layout closed_set item (Int (pos (closed_state is_sold)) ∷ []) low refl (λ db. refl)
-    set_closed_is.0 set_closed_is.1 (ended (closed_state is_sold)) (λ r. refl) (λ r. refl) IsTyped (ended_stays (closed_state is_sold)) old new count house.schema house.shaped.1.1.1.1.0 (are_typed_rows old.now house) h in
+    let w = updates _ set_closed_text 4 item_layout closed_set item (Int (pos (closed_state is_sold)) ∷ []) low refl (λ db. refl)
+    (set_closed_is _).0 (set_closed_is _).1 (ended (closed_state is_sold)) (λ r. refl) (λ r. refl) IsTyped (ended_stays (closed_state is_sold)) old new count house.schema house.shaped.1.1.1.1.0 (are_typed_rows old.now house) h in
     record {
       house = still_house 6 _ old.now new.now house w.0 w.1;
       others = w.0.others;
@@ -422,8 +422,8 @@ settled_stays r typed int =
 pub sets_settled : (old new : State) (item count : ℕ) → IsHouse old.now → item < 2 ^ 32 → Executes set_settled_text (Int (pos item) ∷ []) old new (Ok count) → SetsSettled item old.now new.now
 sets_settled old new item count house low h =
     let rows = old.now.trees 6 in
-    let w = updates set_settled_text 4 item_layout settled_set item [] low refl (λ db. refl)
-    set_settled_is.0 set_settled_is.1 settled (λ r. refl) (λ r. refl) IsTyped settled_stays old new count house.schema house.shaped.1.1.1.1.0 (are_typed_rows old.now house) h in
+    let w = updates _ set_settled_text 4 item_layout settled_set item [] low refl (λ db. refl)
+    (set_settled_is _).0 (set_settled_is _).1 settled (λ r. refl) (λ r. refl) IsTyped settled_stays old new count house.schema house.shaped.1.1.1.1.0 (are_typed_rows old.now house) h in
     record {
       house = still_house 6 _ old.now new.now house w.0 w.1;
       others = w.0.others;

@@ -1,5 +1,5 @@
 -- What the statements on items mean.
-use Rattle.std.proofs.Common.{◌≡◌, refl, List, [], ◌∷◌, ℕ, pos, codes, false}
+use Rattle.std.proofs.Common.{◌≡◌, refl, List, [], ◌∷◌, ℕ, pos, codes, false, Bool}
 use Rattle.sqlite_value.specs.declared.value.Value.TheVariants.{Null, Int}
 use Rattle.sqlite.specs.Term.{Term, lit, col, op2}
 use Rattle.sqlite.specs.Source.TheVariants.{Values}
@@ -10,7 +10,7 @@ use Rattle.sqlite_tied.specs.Compute.{everything}
 use Rattle.sqlite_value.specs.declared.keys.Collation.TheVariants.{Binary}
 use Rattle.sqlite_sql.specs.declared.ops.BinaryOp.TheVariants.{Compare}
 use Rattle.sqlite_sql.specs.declared.ops.CompareOp.TheVariants.{Eq}
-use Rattle.store_rows.specs.Schema.{house_schema}
+use Rattle.store_rows.specs.Schema.{house_by}
 use Rattle.store_rows.specs.Plain.{plain_query}
 use Rattle.store_rows.proofs.Select.{by_rowid, equals}
 
@@ -49,25 +49,25 @@ item_names =
     codes "id" ∷ codes "seller" ∷ codes "category" ∷ codes "start" ∷ codes "buy_now" ∷ codes "ending" ∷ codes "state" ∷ codes "closed" ∷ codes "price" ∷ codes "leader" ∷ codes "count"
     ∷ codes "lot" ∷ codes "title" ∷ codes "body" ∷ codes "top" ∷ codes "second" ∷ []
 
-pub item_at_is : (command_of (understood house_schema item_at_text) ≡ Select (record { lets = []; body = plain_query 6 (equals 0 ∷ []) item_shown by_rowid }) item_names)
-    × (reads_listing house_schema item_at_text ≡ false) × IsPlain (understood house_schema item_at_text)
+pub item_at_is : (b : Bool) → (command_of (understood (house_by b) item_at_text) ≡ Select (record { lets = []; body = plain_query 6 (equals 0 ∷ []) item_shown by_rowid }) item_names)
+    × (reads_listing (house_by b) item_at_text ≡ false) × IsPlain (understood (house_by b) item_at_text)
 unfolding understood everything
-item_at_is = (refl, refl, (refl, refl))
+item_at_is b = (refl, refl, (refl, refl))
 
-pub auction_at_is : (command_of (understood house_schema auction_at_text) ≡ Select (record { lets = []; body = plain_query 6 (equals 0 ∷ []) terms_shown by_rowid }) terms_names)
-    × (reads_listing house_schema auction_at_text ≡ false) × IsPlain (understood house_schema auction_at_text)
+pub auction_at_is : (b : Bool) → (command_of (understood (house_by b) auction_at_text) ≡ Select (record { lets = []; body = plain_query 6 (equals 0 ∷ []) terms_shown by_rowid }) terms_names)
+    × (reads_listing (house_by b) auction_at_text ≡ false) × IsPlain (understood (house_by b) auction_at_text)
 unfolding understood everything
-auction_at_is = (refl, refl, (refl, refl))
+auction_at_is b = (refl, refl, (refl, refl))
 
-pub with_lot_is : (command_of (understood house_schema with_lot_text) ≡ Select (record { lets = []; body = plain_query 6 by_lot (col 1 0 ∷ []) by_rowid }) (codes "id" ∷ []))
-    × (reads_listing house_schema with_lot_text ≡ false) × IsPlain (understood house_schema with_lot_text)
+pub with_lot_is : (b : Bool) → (command_of (understood (house_by b) with_lot_text) ≡ Select (record { lets = []; body = plain_query 6 by_lot (col 1 0 ∷ []) by_rowid }) (codes "id" ∷ []))
+    × (reads_listing (house_by b) with_lot_text ≡ false) × IsPlain (understood (house_by b) with_lot_text)
 unfolding understood everything
-with_lot_is = (refl, refl, (refl, refl))
+with_lot_is b = (refl, refl, (refl, refl))
 
-pub all_items_is : (command_of (understood house_schema all_items_text) ≡ Select (record { lets = []; body = plain_query 6 [] item_shown by_rowid }) item_names)
-    × (reads_listing house_schema all_items_text ≡ false) × IsPlain (understood house_schema all_items_text)
+pub all_items_is : (b : Bool) → (command_of (understood (house_by b) all_items_text) ≡ Select (record { lets = []; body = plain_query 6 [] item_shown by_rowid }) item_names)
+    × (reads_listing (house_by b) all_items_text ≡ false) × IsPlain (understood (house_by b) all_items_text)
 unfolding understood everything
-all_items_is = (refl, refl, (refl, refl))
+all_items_is b = (refl, refl, (refl, refl))
 
 -- ---- writes
 
@@ -107,22 +107,22 @@ abbrev pub settled_set : List Term
 settled_set =
     col 1 0 ∷ lit Null ∷ col 1 2 ∷ col 1 3 ∷ col 1 4 ∷ col 1 5 ∷ col 1 6 ∷ col 1 7 ∷ col 1 8 ∷ col 1 9 ∷ lit (Int (pos 3)) ∷ col 1 11 ∷ col 1 12 ∷ col 1 13 ∷ col 1 14 ∷ col 1 15 ∷ col 1 16 ∷ []
 
-pub put_item_is : (command_of (understood house_schema put_item_text) ≡ Insert 4 (Values put_terms 17)) × IsPlain (understood house_schema put_item_text)
+pub put_item_is : (b : Bool) → (command_of (understood (house_by b) put_item_text) ≡ Insert 4 (Values put_terms 17)) × IsPlain (understood (house_by b) put_item_text)
 unfolding understood everything
-put_item_is = (refl, (refl, refl))
+put_item_is b = (refl, (refl, refl))
 
-pub set_standing_is : (command_of (understood house_schema set_standing_text) ≡ Update 4 (record { lets = []; body = plain_query 6 (equals 0 ∷ []) (col 1 0 ∷ standing_set) [] })) × IsPlain (understood house_schema set_standing_text)
+pub set_standing_is : (b : Bool) → (command_of (understood (house_by b) set_standing_text) ≡ Update 4 (record { lets = []; body = plain_query 6 (equals 0 ∷ []) (col 1 0 ∷ standing_set) [] })) × IsPlain (understood (house_by b) set_standing_text)
 unfolding understood everything
-set_standing_is = (refl, (refl, refl))
+set_standing_is b = (refl, (refl, refl))
 
-pub set_bought_is : (command_of (understood house_schema set_bought_text) ≡ Update 4 (record { lets = []; body = plain_query 6 (equals 0 ∷ []) (col 1 0 ∷ bought_set) [] })) × IsPlain (understood house_schema set_bought_text)
+pub set_bought_is : (b : Bool) → (command_of (understood (house_by b) set_bought_text) ≡ Update 4 (record { lets = []; body = plain_query 6 (equals 0 ∷ []) (col 1 0 ∷ bought_set) [] })) × IsPlain (understood (house_by b) set_bought_text)
 unfolding understood everything
-set_bought_is = (refl, (refl, refl))
+set_bought_is b = (refl, (refl, refl))
 
-pub set_closed_is : (command_of (understood house_schema set_closed_text) ≡ Update 4 (record { lets = []; body = plain_query 6 (equals 0 ∷ []) (col 1 0 ∷ closed_set) [] })) × IsPlain (understood house_schema set_closed_text)
+pub set_closed_is : (b : Bool) → (command_of (understood (house_by b) set_closed_text) ≡ Update 4 (record { lets = []; body = plain_query 6 (equals 0 ∷ []) (col 1 0 ∷ closed_set) [] })) × IsPlain (understood (house_by b) set_closed_text)
 unfolding understood everything
-set_closed_is = (refl, (refl, refl))
+set_closed_is b = (refl, (refl, refl))
 
-pub set_settled_is : (command_of (understood house_schema set_settled_text) ≡ Update 4 (record { lets = []; body = plain_query 6 (equals 0 ∷ []) (col 1 0 ∷ settled_set) [] })) × IsPlain (understood house_schema set_settled_text)
+pub set_settled_is : (b : Bool) → (command_of (understood (house_by b) set_settled_text) ≡ Update 4 (record { lets = []; body = plain_query 6 (equals 0 ∷ []) (col 1 0 ∷ settled_set) [] })) × IsPlain (understood (house_by b) set_settled_text)
 unfolding understood everything
-set_settled_is = (refl, (refl, refl))
+set_settled_is b = (refl, (refl, refl))

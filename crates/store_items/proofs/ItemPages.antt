@@ -29,7 +29,7 @@ use Rattle.store_rows.specs.declared.reserve.ReserveRow.{ReserveRow}
 use Rattle.store_rows.specs.ItemRows.{item_by, item_row_in, items_in}
 use Rattle.store_rows.specs.Plain.{passes, shown_by}
 use Rattle.store_rows.specs.Rows.{number_in, reserves_in}
-use Rattle.store_rows.specs.Schema.{house_schema}
+use Rattle.store_rows.specs.Schema.{house_by}
 use Rattle.store_rows.proofs.RowLemmas.{filter_same_on}
 use Rattle.store_rows.proofs.Select.{in_order, typed_part, by_rowid, equals}
 use Rattle.store_items.specs.Standing.{ItemHolds}
@@ -56,19 +56,19 @@ item_names =
 
 pub items_is : Asks items_text 6 (equals 3 ∷ from_second 0 ∷ []) item_shown by_rowid item_names
 unfolding understood everything
-items_is = (refl, refl, (refl, refl))
+items_is b = (refl, refl, (refl, refl))
 
-pub items_finite : IsFinite (understood house_schema items_text)
+pub items_finite : (b : Bool) → IsFinite (understood (house_by b) items_text)
 unfolding understood everything
-items_finite = refl
+items_finite b = refl
 
 pub stray_items_is : Asks stray_items_text 6 (equals 3 ∷ under_zero 0 ∷ []) (col 1 0 ∷ []) by_rowid (codes "id" ∷ [])
 unfolding understood everything
-stray_items_is = (refl, refl, (refl, refl))
+stray_items_is b = (refl, refl, (refl, refl))
 
-pub stray_items_finite : IsFinite (understood house_schema stray_items_text)
+pub stray_items_finite : (b : Bool) → IsFinite (understood (house_by b) stray_items_text)
 unfolding understood everything
-stray_items_finite = refl
+stray_items_finite b = refl
 
 abbrev pub keeps_item : ℕ → ℕ → Item → Bool
 keeps_item category from it = (it.terms.category == category) && nat_le from it.terms.item

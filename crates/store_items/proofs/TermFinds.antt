@@ -28,7 +28,7 @@ use Rattle.house_rows.specs.Items.{is_due, is_open}
 use Rattle.house_rows.specs.Tables.{ItemRow}
 use Rattle.house_rows.specs.Editions.{BandTables}
 use Rattle.house_rows.proofs.Put.{by_test}
-use Rattle.store_rows.specs.Schema.{house_schema, item_table}
+use Rattle.store_rows.specs.Schema.{item_table}
 use Rattle.store_rows.specs.House.{IsHouse}
 use Rattle.store_rows.specs.declared.reserve.ReserveRow.{ReserveRow}
 use Rattle.store_rows.specs.ItemRows.{item_row_in, items_in, state_in, terms_by}
@@ -90,7 +90,7 @@ module _ (sql : List ℕ) (test : List Term) (is : AsksTerms sql test) (params :
       → map (terms_by R) answer ≡ map (λ (row : ItemRow). row.item.terms) (filter keep (items_in old.now.trees))
   terms_found keep tests =
       let rows = old.now.trees 6 in
-      let read = reads_as sql params old new house_schema house.schema _ is.0 is.2 is.1 answer h in
+      let read = reads_as sql params old new _ house.schema _ (is _).0 (is _).2 (is _).1 answer h in
       let order = in_order test terms_shown params rows answer house.shaped.1.1.1.1.0.0 (listed 6 test terms_shown by_rowid (overlay old.now.trees []) params answer (read.answer Null)) in
       typed_part (terms_by R) make (λ (row : ItemRow). row.item.terms) keep IsRow test terms_shown params rows answer (λ r. refl) tests (are_rows old.now house) order
 
@@ -101,7 +101,7 @@ module _ (sql : List ℕ) (test : List Term) (is : AsksTerms sql test) (params :
       let rows = old.now.trees 6 in
       let kept = filter (passes test params) rows in
       let show = shown_by terms_shown params in
-      let read = reads_as sql params old new house_schema house.schema _ is.0 is.2 is.1 answer h in
+      let read = reads_as sql params old new _ house.schema _ (is _).0 (is _).2 (is _).1 answer h in
       let order = in_order test terms_shown params rows answer house.shaped.1.1.1.1.0.0 (listed 6 test terms_shown by_rowid (overlay old.now.trees []) params answer (read.answer Null)) in
       let each = passing_fit make (FitsBy editions) keep IsRow (passes test params) tests rows (are_rows old.now house) fit in
       subst (AllByRecursion (TermsHold editions R)) (sym order) (all_map (TermsHold editions R) show kept (all_weaker (λ r. FitsBy editions (make r)) (λ r. TermsHold editions R (show r)) (terms_row editions R params) kept each))
@@ -118,7 +118,7 @@ module _ (sql : List ℕ) (test : List Term) (is : AsksTerms sql test) (params :
       let show = shown_by terms_shown params in
       let Low = λ (row : ItemRow). row.item.terms.item < 2 ^ 32 in
       let Small = λ (r : Row). number_in (column r 0) < 2 ^ 32 in
-      let read = reads_as sql params old new house_schema house.schema _ is.0 is.2 is.1 answer h in
+      let read = reads_as sql params old new _ house.schema _ (is _).0 (is _).2 (is _).1 answer h in
       let order = in_order test terms_shown params rows answer house.shaped.1.1.1.1.0.0 (listed 6 test terms_shown by_rowid (overlay old.now.trees []) params answer (read.answer Null)) in
       let typed : filter keep (map make rows) ≡ map make kept = filter-map keep make rows ∙ ap (map make) (sym (filter_same_on IsRow passing (λ r. keep (make r)) keeps rows (are_rows old.now house))) in
       let are : AllByRecursion (λ r. IsRow r × (passing r ≡ true)) kept =
@@ -137,7 +137,7 @@ module _ (sql : List ℕ) (test : List Term) (is : AsksTerms sql test) (params :
       let show = shown_by terms_shown params in
       let both = λ (r : Row). passes test params r && further (show r) in
       let kept = filter both rows in
-      let read = reads_as sql params old new house_schema house.schema _ is.0 is.2 is.1 answer h in
+      let read = reads_as sql params old new _ house.schema _ (is _).0 (is _).2 (is _).1 answer h in
       let order = in_order test terms_shown params rows answer house.shaped.1.1.1.1.0.0 (listed 6 test terms_shown by_rowid (overlay old.now.trees []) params answer (read.answer Null)) in
       let typed : filter keep (map make rows) ≡ map make kept = filter-map keep make rows ∙ ap (map make) (sym (filter_same_on IsRow both (λ r. keep (make r)) tests rows (are_rows old.now house))) in
       let front = all_unmap (FitsBy editions) make (take many kept) (subst (AllByRecursion (FitsBy editions)) (ap (take many) typed ∙ take-map make many kept) fit) in

@@ -1,5 +1,5 @@
 -- What the lists of items without their texts mean.
-use Rattle.std.proofs.Common.{◌≡◌, refl, List, [], ◌∷◌, ℕ, pos, codes, false}
+use Rattle.std.proofs.Common.{◌≡◌, refl, List, [], ◌∷◌, ℕ, pos, codes, false, Bool}
 use Rattle.sqlite_value.specs.declared.value.Value.TheVariants.{Int}
 use Rattle.sqlite_value.specs.declared.keys.Collation.TheVariants.{Binary}
 use Rattle.sqlite_sql.specs.Term.{Term, lit, col, op2}
@@ -9,7 +9,7 @@ use Rattle.sqlite.specs.Command.TheVariants.{Select}
 use Rattle.sqlite.specs.Listing.{understood, reads_listing}
 use Rattle.sqlite.proofs.Callers.{IsPlain, command_of}
 use Rattle.sqlite_tied.specs.Compute.{everything}
-use Rattle.store_rows.specs.Schema.{house_schema}
+use Rattle.store_rows.specs.Schema.{house_by}
 use Rattle.store_rows.specs.Plain.{plain_query}
 use Rattle.store_rows.proofs.Select.{by_rowid, equals}
 use Rattle.store_items.proofs.ItemMeaning.{terms_shown}
@@ -21,8 +21,8 @@ terms_names =
 
 -- a query over the items without their texts, by number
 abbrev pub AsksTerms : List ℕ → List Term → Type 0
-AsksTerms sql test = (command_of (understood house_schema sql) ≡ Select (record { lets = []; body = plain_query 6 test terms_shown by_rowid }) terms_names)
-    × (reads_listing house_schema sql ≡ false) × IsPlain (understood house_schema sql)
+AsksTerms sql test = (b : Bool) → (command_of (understood (house_by b) sql) ≡ Select (record { lets = []; body = plain_query 6 test terms_shown by_rowid }) terms_names)
+    × (reads_listing (house_by b) sql ≡ false) × IsPlain (understood (house_by b) sql)
 
 -- open, with an end from 0 to a moment
 abbrev pub ended_by : List Term
@@ -39,12 +39,12 @@ due_terms_text = codes "SELECT id, seller, category, start, buy_now, ending, sta
 
 pub terms_of_seller_is : AsksTerms terms_of_seller_text (equals 2 ∷ [])
 unfolding understood everything
-terms_of_seller_is = (refl, refl, (refl, refl))
+terms_of_seller_is b = (refl, refl, (refl, refl))
 
 pub terms_led_by_is : AsksTerms terms_led_by_text (equals 13 ∷ [])
 unfolding understood everything
-terms_led_by_is = (refl, refl, (refl, refl))
+terms_led_by_is b = (refl, refl, (refl, refl))
 
 pub due_terms_is : AsksTerms due_terms_text ended_by
 unfolding understood everything
-due_terms_is = (refl, refl, (refl, refl))
+due_terms_is b = (refl, refl, (refl, refl))

@@ -30,7 +30,7 @@ use Rattle.tree_order.specs.RowLaws.{renumbered_table, rows_back}
 use Rattle.store_rows.specs.House.{IsHouse}
 use Rattle.store_rows.specs.Schema.{house_table, band_table, member_table, category_table, item_table, bid_table, watch_table, question_table, feedback_table}
 use Rattle.store_rows.specs.Schema.{house_schema}
-use Rattle.store_rows.specs.Schema.{item_by_category, item_by_seller, item_by_leader, item_by_end, bid_by_member, question_by_asker, feedback_by_receiver}
+use Rattle.store_rows.specs.Schema.{item_by_category, item_by_seller, item_by_leader, item_by_end, bid_by_member, question_by_asker, feedback_by_receiver, watch_by_item}
 use Rattle.store_house.specs.Named.{HoldsHouse, HoldsSound, IsArranged, IsReordered, house_names}
 use Rattle.store_house.specs.Places.{trees_named}
 use Rattle.store_making.specs.Made.{IsMadeHouse, edition_made, later_band_made, made_schema, reserve_made}
@@ -40,10 +40,10 @@ use Rattle.store_making.proofs.Relisted.{IsMoved, list_in_order, lists_moved}
 
 -- where each tree of a house lies in one that was made, and back
 abbrev made_places : List ℕ
-made_places = 0 ∷ 1 ∷ 2 ∷ 3 ∷ 4 ∷ 5 ∷ 6 ∷ 7 ∷ 8 ∷ 9 ∷ 10 ∷ 11 ∷ 12 ∷ 13 ∷ 14 ∷ 15 ∷ 20 ∷ 21 ∷ 22 ∷ 23 ∷ 24 ∷ 25 ∷ 26 ∷ 16 ∷ 17 ∷ 18 ∷ 19 ∷ []
+made_places = 0 ∷ 1 ∷ 2 ∷ 3 ∷ 4 ∷ 5 ∷ 6 ∷ 7 ∷ 8 ∷ 9 ∷ 10 ∷ 11 ∷ 12 ∷ 13 ∷ 14 ∷ 15 ∷ 20 ∷ 21 ∷ 22 ∷ 23 ∷ 24 ∷ 25 ∷ 26 ∷ 16 ∷ 17 ∷ 18 ∷ 19 ∷ 27 ∷ []
 
 abbrev house_places : List ℕ
-house_places = 0 ∷ 1 ∷ 2 ∷ 3 ∷ 4 ∷ 5 ∷ 6 ∷ 7 ∷ 8 ∷ 9 ∷ 10 ∷ 11 ∷ 12 ∷ 13 ∷ 14 ∷ 15 ∷ 23 ∷ 24 ∷ 25 ∷ 26 ∷ 16 ∷ 17 ∷ 18 ∷ 19 ∷ 20 ∷ 21 ∷ 22 ∷ []
+house_places = 0 ∷ 1 ∷ 2 ∷ 3 ∷ 4 ∷ 5 ∷ 6 ∷ 7 ∷ 8 ∷ 9 ∷ 10 ∷ 11 ∷ 12 ∷ 13 ∷ 14 ∷ 15 ∷ 23 ∷ 24 ∷ 25 ∷ 26 ∷ 16 ∷ 17 ∷ 18 ∷ 19 ∷ 20 ∷ 21 ∷ 22 ∷ 27 ∷ []
 
 -- ---- what is so of each number below another
 
@@ -70,10 +70,10 @@ places_inverse : AreInverse made_places house_places
 places_inverse = record {
   few = omega arith;
   same = refl;
-  low = λ t low. below_from (number made_places t) 27 (at_each (λ t. nat_lt (number made_places t) 27) 27 t refl low);
-  back = λ t low. same_from (number house_places (number made_places t)) t (at_each (λ t. eqb (number house_places (number made_places t)) t) 27 t refl low);
-  high = λ t low. below_from (number house_places t) 27 (at_each (λ t. nat_lt (number house_places t) 27) 27 t refl low);
-  forth = λ t low. same_from (number made_places (number house_places t)) t (at_each (λ t. eqb (number made_places (number house_places t)) t) 27 t refl low);
+  low = λ t low. below_from (number made_places t) 28 (at_each (λ t. nat_lt (number made_places t) 28) 28 t refl low);
+  back = λ t low. same_from (number house_places (number made_places t)) t (at_each (λ t. eqb (number house_places (number made_places t)) t) 28 t refl low);
+  high = λ t low. below_from (number house_places t) 28 (at_each (λ t. nat_lt (number house_places t) 28) 28 t refl low);
+  forth = λ t low. same_from (number made_places (number house_places t)) t (at_each (λ t. eqb (number made_places (number house_places t)) t) 28 t refl low);
 }
 
 -- ---- lists that rise
@@ -197,7 +197,10 @@ places_moved named = record {
                               inr (inr (inr (inr (inr (inr (inr (inr (inr (inr (inr (inr (inl refl)))))))))))),
                               (
                                 inr (inr (inr (inr (inr (inr (inr (inr (inr (inr (inr (inr (inr (inl refl))))))))))))),
-                                tt,
+                                (
+                                  inr (inr (inr (inr (inr (inr (inr (inr (inr (inr (inr (inr (inr (inr (inr (inl refl))))))))))))))),
+                                  tt,
+                                ),
                               ),
                             ),
                           ),
@@ -243,7 +246,10 @@ places_moved named = record {
                               (record feedback_by_receiver { tree = 26 }, inr (inr (inr (inr (inr (inr (inr (inr (inr (inr (inr (inr (inr (inr (inl refl)))))))))))))), refl),
                               (
                                 (automatic later_band_made 0 (1 ∷ 2 ∷ []) 19, inr (inr (inr (inr (inr (inr (inr (inl refl))))))), refl),
-                                tt,
+                                (
+                                  (watch_by_item, inr (inr (inr (inr (inr (inr (inr (inr (inr (inr (inr (inr (inr (inr (inr (inl refl))))))))))))))), refl),
+                                  tt,
+                                ),
                               ),
                             ),
                           ),
@@ -317,7 +323,8 @@ names_find rows are =
     (next (table edition_made (inr (inr (inr (inr (inr (inr (inr (inr (inr (inr (inl refl))))))))))) 24)
     (next (table later_band_made (inr (inr (inr (inr (inr (inr (inr (inr (inr (inr (inr (inl refl)))))))))))) 25)
     (next (index (automatic later_band_made 0 (1 ∷ 2 ∷ []) 19) (inr (inr (inr (inr (inr (inr (inr (inl refl)))))))) 26)
-    refl))))))))))))))))))))))))))
+    (next (index watch_by_item (inr (inr (inr (inr (inr (inr (inr (inr (inr (inr (inr (inr (inr (inr (inr (inl refl)))))))))))))))) 27)
+    refl)))))))))))))))))))))))))))
 
 -- ---- a house that was made
 
@@ -362,7 +369,7 @@ module _ (settings : Settings) (made : Database) (house : IsMadeHouse settings m
   in_house_order = record { schema = house_schema; trees = trees }
 
   pub is_house : IsHouse in_house_order
-  is_house = record { schema = refl; shaped = house.laid.shaped; sound = sound_house }
+  is_house = record { is_indexed = true; schema = refl; shaped = house.laid.shaped; sound = sound_house }
 
   abbrev order : IsReordered made.trees trees
   order = record { inner = made_places; outer = house_places; inverse = places_inverse; shown = refl }

@@ -1,5 +1,5 @@
 -- What the rows of a new house make of the tables in which they are written.
-use Rattle.std.proofs.Common.{◌≡◌, ◌≢◌, ℕ, suc, zero, ◌+◌, ◌<◌, ◌≤◌, ◌^◌, ◌==◌, true, List, [], ◌∷◌, ◌++◌, map, find, is_some, IfSome, length, get_or, take, All, inl, inr, refl, sym, ap, ap₂, subst, ◌∙◌, arith}
+use Rattle.std.proofs.Common.{◌≡◌, ◌≢◌, ℕ, suc, zero, ◌+◌, ◌<◌, ◌≤◌, ◌^◌, ◌==◌, true, List, [], ◌∷◌, ◌++◌, map, find, is_some, IfSome, length, get_or, take, All, inl, inr, refl, sym, ap, ap₂, subst, ◌∙◌, arith, Bool}
 use Rattle.std.specs.List.{AllByRecursion}
 use Rattle.std.proofs.lemmas.List.{map_more}
 use Rattle.std.proofs.lemmas.List.Elements.{All-from_recursion, All-nil}
@@ -23,8 +23,8 @@ use Rattle.store_rows.specs.Fitting.{HouseRowFits, ReserveRowFits}
 use Rattle.store_rows.specs.House.{IsHouse}
 use Rattle.store_rows.specs.ItemRows.{item_row_in, items_by}
 use Rattle.store_rows.specs.Rows.{band_in, bands_in, category_in, house_in, houses_in, later_band_in, member_in, reserve_in, reserves_in}
-use Rattle.store_rows.specs.Schema.{house_table, band_table, member_table, category_table, item_table, bid_table, watch_table, question_table, feedback_table}
-use Rattle.store_rows.specs.Schema.{house_schema, reserve_table, edition_table, later_band_table}
+use Rattle.store_rows.specs.Schema.{band_table, bid_table, category_table, feedback_table, house_table, item_table, member_table, question_table, watch_table}
+use Rattle.store_rows.specs.Schema.{edition_table, house_by, later_band_table, reserve_table}
 use Rattle.store_rows.specs.Sorted.{sorted_by}
 use Rattle.store_rows.specs.Tables.{house_row_in, settings_in, tables_in}
 use Rattle.store_house.proofs.ArrangedLemmas.{table_by_name}
@@ -75,7 +75,7 @@ band_more bands i from step old new valid low same was added =
     }
 
 -- the tables that were made have no band
-pub none_laid : (db : Database) → IsMadeWith 10 db → HasBands [] db
+pub none_laid : (db : Database) → IsMadeWith 11 db → HasBands [] db
 none_laid db made = record {
   laid = record { schema = made.schema; shaped = each made_schema.tables made.empty; sound = made.sound };
   bands_are = ap (map band_in) made.empty.1.0;
@@ -182,14 +182,14 @@ named_made made are =
     }
 
 -- and so do trees that are a house, in whatever order they are shown
-shown_made : (made db : Trees) → AreListed (made catalog_tree) made_schema → IsShaped shape.Table (made catalog_tree) → (order : IsReordered made db) → AreListed (db catalog_tree) house_schema
+shown_made : (made db : Trees) (b : Bool) → AreListed (made catalog_tree) made_schema → IsShaped shape.Table (made catalog_tree) → (order : IsReordered made db) → AreListed (db catalog_tree) (house_by b)
     → ShowsMade made db
-shown_made made db are table order whole =
+shown_made made db b are table order whole =
     let rows = made catalog_tree in
     let inner = order.inner in
     let from = table_found rows made_schema are in
-    let listed : AreListed (renumbered_rows order.outer rows) house_schema = subst (λ (d : Trees). AreListed (d catalog_tree) house_schema) order.shown whole in
-    let to = table_by_name inner order.outer order.inverse rows table house_schema listed in
+    let listed : AreListed (renumbered_rows order.outer rows) (house_by b) = subst (λ (d : Trees). AreListed (d catalog_tree) (house_by b)) order.shown whole in
+    let to = table_by_name inner order.outer order.inverse rows table (house_by b) listed in
     let is = λ (n : ℕ). ap (λ (d : Trees). d n) order.shown in
     record {
       house = is 0 ∙ ap made (sym (to house_table (inl refl) 0) ∙ from house_table (inl refl) 0);
@@ -268,7 +268,7 @@ module _ (settings : Settings) (made shown : Database) (house : IsMadeHouse sett
   shown_rows : HasNewRows settings shown.trees
   shown_rows =
       new_rows settings made.trees shown.trees house.houses house.bands house.empty
-      (shown_made made.trees shown.trees (subst (AreListed (made.trees catalog_tree)) house.laid.schema house.laid.sound.lists.listed) table order
+      (shown_made made.trees shown.trees whole.is_indexed (subst (AreListed (made.trees catalog_tree)) house.laid.schema house.laid.sound.lists.listed) table order
       (subst (AreListed (shown.trees catalog_tree)) whole.schema whole.sound.lists.listed))
 
   pub shown_tables : tables_in shown.trees ≡ tables_of settings []

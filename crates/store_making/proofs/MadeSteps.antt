@@ -16,12 +16,12 @@ use Rattle.sqlite.specs.State.{State, Writes, Executes, mode_of}
 use Rattle.sqlite.proofs.Callers.{IsPlain, command_of, statement_of, runs_as}
 use Rattle.sqlite_tied.specs.Compute.{everything}
 use Rattle.store_rows.specs.Making.{IsMade, making_at}
-use Rattle.store_rows.specs.Schema.{item_table, bid_table, question_table, feedback_table, reserve_table, edition_table, later_band_table}
-use Rattle.store_rows.specs.Schema.{item_by_category, item_by_seller, item_by_leader, item_by_end, bid_by_member, question_by_asker, feedback_by_receiver}
+use Rattle.store_rows.specs.Schema.{item_table, bid_table, watch_table, question_table, feedback_table, reserve_table, edition_table, later_band_table}
+use Rattle.store_rows.specs.Schema.{item_by_category, item_by_seller, item_by_leader, item_by_end, bid_by_member, question_by_asker, feedback_by_receiver, watch_by_item}
 use Rattle.store_rows.specs.Texts.{make_reserve, make_edition, make_later_band}
-use Rattle.store_rows.specs.Texts.{make_item_by_category, make_item_by_seller, make_item_by_leader, make_item_by_end, make_bid_by_member, make_question_by_asker, make_feedback_by_receiver}
+use Rattle.store_rows.specs.Texts.{make_item_by_category, make_item_by_seller, make_item_by_leader, make_item_by_end, make_bid_by_member, make_question_by_asker, make_feedback_by_receiver, make_watch_by_item}
 use Rattle.store_rows.proofs.Making.{reserve_defined, edition_defined, later_band_defined}
-use Rattle.store_rows.proofs.Making.{item_by_category_defined, item_by_seller_defined, item_by_leader_defined, item_by_end_defined, bid_by_member_defined, question_by_asker_defined, feedback_by_receiver_defined}
+use Rattle.store_rows.proofs.Making.{item_by_category_defined, item_by_seller_defined, item_by_leader_defined, item_by_end_defined, bid_by_member_defined, question_by_asker_defined, feedback_by_receiver_defined, watch_by_item_defined}
 use Rattle.store_rows.proofs.Wrote.{went, same_value}
 use Rattle.store_making.specs.Made.{IsMadeWith, later_making_at, made_with}
 
@@ -122,9 +122,13 @@ feedback_by_receiver_is : (command_of (understood (made_with 9) make_feedback_by
 unfolding understood everything
 feedback_by_receiver_is = (refl, refl, (refl, refl))
 
+watch_by_item_is : (command_of (understood (made_with 10) make_watch_by_item) ≡ CreateIndex 6) × (statement_of make_watch_by_item (understood (made_with 10) make_watch_by_item) ≡ make_watch_by_item) × IsPlain (understood (made_with 10) make_watch_by_item)
+unfolding understood everything
+watch_by_item_is = (refl, refl, (refl, refl))
+
 -- ---- all of them
 
-pub makes_later : (n : ℕ) → n < 10 → (old new : State) (count : ℕ) → IsMadeWith n old.now → Executes (later_making_at n) [] old new (Ok count) → IsMadeWith (n + 1) new.now
+pub makes_later : (n : ℕ) → n < 11 → (old new : State) (count : ℕ) → IsMadeWith n old.now → Executes (later_making_at n) [] old new (Ok count) → IsMadeWith (n + 1) new.now
 makes_later zero low old new count was h = table_made 0 old new make_reserve (record reserve_table { tree = 0 }) count reserve_is.0 reserve_is.1 reserve_is.2 reserve_defined refl refl was h
 makes_later (suc zero) low old new count was h = table_made 1 old new make_edition (record edition_table { tree = 0 }) count edition_is.0 edition_is.1 edition_is.2 edition_defined refl refl was h
 makes_later (suc (suc zero)) low old new count was h = table_made 2 old new make_later_band (record later_band_table { tree = 0 }) count later_band_is.0 later_band_is.1 later_band_is.2 later_band_defined refl refl was h
@@ -135,7 +139,8 @@ makes_later (suc (suc (suc (suc (suc (suc zero)))))) low old new count was h = i
 makes_later (suc (suc (suc (suc (suc (suc (suc zero))))))) low old new count was h = index_made 7 old new make_bid_by_member 5 bid_table (record bid_by_member { tree = 0 }) count bid_by_member_is.0 bid_by_member_is.1 bid_by_member_is.2 refl bid_by_member_defined refl was h
 makes_later (suc (suc (suc (suc (suc (suc (suc (suc zero)))))))) low old new count was h = index_made 8 old new make_question_by_asker 7 question_table (record question_by_asker { tree = 0 }) count question_by_asker_is.0 question_by_asker_is.1 question_by_asker_is.2 refl question_by_asker_defined refl was h
 makes_later (suc (suc (suc (suc (suc (suc (suc (suc (suc zero))))))))) low old new count was h = index_made 9 old new make_feedback_by_receiver 8 feedback_table (record feedback_by_receiver { tree = 0 }) count feedback_by_receiver_is.0 feedback_by_receiver_is.1 feedback_by_receiver_is.2 refl feedback_by_receiver_defined refl was h
-makes_later (suc (suc (suc (suc (suc (suc (suc (suc (suc (suc n)))))))))) low old new count was h = absurd (omega (arith, low))
+makes_later (suc (suc (suc (suc (suc (suc (suc (suc (suc (suc zero)))))))))) low old new count was h = index_made 10 old new make_watch_by_item 6 watch_table (record watch_by_item { tree = 0 }) count watch_by_item_is.0 watch_by_item_is.1 watch_by_item_is.2 refl watch_by_item_defined refl was h
+makes_later (suc (suc (suc (suc (suc (suc (suc (suc (suc (suc (suc n))))))))))) low old new count was h = absurd (omega (arith, low))
 
 -- the first nine tables are those of a house
 pub first_made : (db : Database) → IsMade 9 db → IsMadeWith 0 db
@@ -161,3 +166,17 @@ index_is (suc (suc (suc (suc (suc (suc (suc zero))))))) late low = refl
 index_is (suc (suc (suc (suc (suc (suc (suc (suc zero)))))))) late low = refl
 index_is (suc (suc (suc (suc (suc (suc (suc (suc (suc zero))))))))) late low = refl
 index_is (suc (suc (suc (suc (suc (suc (suc (suc (suc (suc n)))))))))) late low = absurd (omega (arith, low))
+
+pub last_is : (n : ℕ) → ¬ (n < 10) → n < 11 → making_at 19 ≡ later_making_at n
+last_is zero late low = absurd (late (omega arith))
+last_is (suc zero) late low = absurd (late (omega arith))
+last_is (suc (suc zero)) late low = absurd (late (omega arith))
+last_is (suc (suc (suc zero))) late low = absurd (late (omega arith))
+last_is (suc (suc (suc (suc zero)))) late low = absurd (late (omega arith))
+last_is (suc (suc (suc (suc (suc zero))))) late low = absurd (late (omega arith))
+last_is (suc (suc (suc (suc (suc (suc zero)))))) late low = absurd (late (omega arith))
+last_is (suc (suc (suc (suc (suc (suc (suc zero))))))) late low = absurd (late (omega arith))
+last_is (suc (suc (suc (suc (suc (suc (suc (suc zero)))))))) late low = absurd (late (omega arith))
+last_is (suc (suc (suc (suc (suc (suc (suc (suc (suc zero))))))))) late low = absurd (late (omega arith))
+last_is (suc (suc (suc (suc (suc (suc (suc (suc (suc (suc zero)))))))))) late low = refl
+last_is (suc (suc (suc (suc (suc (suc (suc (suc (suc (suc (suc n))))))))))) late low = absurd (omega (arith, low))

@@ -1,5 +1,5 @@
 -- The schema in which a house is made, in the order in which SQLite's VACUUM leaves it: all tables with their own indexes, and
--- then the seven indexes. The first nine tables have the trees that `house_schema` gives them. Start here.
+-- then the eight indexes. The first nine tables have the trees that `house_schema` gives them. Start here.
 use Rattle.std.specs.Prelude.{◌≡◌, ◌≢◌, ◌<◌, ◌≤◌, ◌-◌, ◌+◌, ℕ, All, List, [], ◌∷◌, ◌++◌, map, slice_get, take, unwrap_or}
 use Rattle.std.specs.List.{AllByRecursion}
 use Rattle.sqlite_trees.specs.Tree.{Trees}
@@ -17,9 +17,9 @@ use Rattle.store_rows.specs.declared.house.HouseRow.{HouseRow}
 use Rattle.store_rows.specs.Rows.{bands_in, houses_in, reserves_in}
 use Rattle.store_rows.specs.Schema.{house_table, band_table, member_table, category_table, item_table, bid_table, watch_table, question_table, feedback_table}
 use Rattle.store_rows.specs.Schema.{reserve_table, edition_table, later_band_table}
-use Rattle.store_rows.specs.Schema.{item_by_category, item_by_seller, item_by_leader, item_by_end, bid_by_member, question_by_asker, feedback_by_receiver}
+use Rattle.store_rows.specs.Schema.{item_by_category, item_by_seller, item_by_leader, item_by_end, bid_by_member, question_by_asker, feedback_by_receiver, watch_by_item}
 use Rattle.store_rows.specs.Texts.{make_reserve, make_edition, make_later_band}
-use Rattle.store_rows.specs.Texts.{make_item_by_category, make_item_by_seller, make_item_by_leader, make_item_by_end, make_bid_by_member, make_question_by_asker, make_feedback_by_receiver}
+use Rattle.store_rows.specs.Texts.{make_item_by_category, make_item_by_seller, make_item_by_leader, make_item_by_end, make_bid_by_member, make_question_by_asker, make_feedback_by_receiver, make_watch_by_item}
 use Rattle.store_house.specs.Named.{house_names, tables_held}
 use Rattle.store_house.specs.Places.{by_names}
 
@@ -50,7 +50,8 @@ made_schema = record {
       ∷ record item_by_end { tree = 23 }
       ∷ record bid_by_member { tree = 24 }
       ∷ record question_by_asker { tree = 25 }
-      ∷ record feedback_by_receiver { tree = 26 } ∷ [];
+      ∷ record feedback_by_receiver { tree = 26 }
+      ∷ watch_by_item ∷ [];
   views = [];
 }
 
@@ -61,7 +62,7 @@ abbrev pub later_making : List (List ℕ)
 later_making =
     make_reserve ∷ make_edition ∷ make_later_band
     ∷ make_item_by_category ∷ make_item_by_seller ∷ make_item_by_leader ∷ make_item_by_end
-    ∷ make_bid_by_member ∷ make_question_by_asker ∷ make_feedback_by_receiver ∷ []
+    ∷ make_bid_by_member ∷ make_question_by_asker ∷ make_feedback_by_receiver ∷ make_watch_by_item ∷ []
 
 abbrev pub later_making_at : ℕ → List ℕ
 later_making_at n = unwrap_or (slice_get later_making n) []

@@ -9,7 +9,7 @@ ghost use Rattle.store_making.specs.Made.{HasBands, IsMadeWith, later_making_at}
 
 use house_rows::KeepFault;
 use sqlite::{Alter, Transaction};
-use store_rows::{FIRST_STEPS, fault_of, make_steps, step_text};
+use store_rows::{FIRST_STEPS, OLDER_STEPS, fault_of, make_steps, step_text};
 
 // How many of the tables come first in either order.
 const SAME_STEPS: usize = 9;
@@ -17,19 +17,24 @@ const SAME_STEPS: usize = 9;
 // How many tables are left, which version 2 adds.
 const LATER_TABLES: usize = 3;
 
-// How many statements make these and the indexes.
-const LATER_STEPS: usize = 10;
+// How many statements make these and the indexes that older houses have.
+const OLDER_LATER_STEPS: usize = 10;
+
+// How many make these and all indexes.
+const LATER_STEPS: usize = 11;
 
 // The text of a step: the tables that are left, and then the indexes.
-#[tactic(auto, using(crate::proofs::MadeSteps::table_is, crate::proofs::MadeSteps::index_is))]
+#[tactic(auto, using(crate::proofs::MadeSteps::table_is, crate::proofs::MadeSteps::index_is, crate::proofs::MadeSteps::last_is))]
 fn later_text(step: usize) -> &'static str
     requires { step < LATER_STEPS }
     ensures { result.now ≡ later_making_at step }
 {
     if step < LATER_TABLES {
         step_text(FIRST_STEPS + step)
-    } else {
+    } else if step < OLDER_LATER_STEPS {
         step_text(SAME_STEPS + step - LATER_TABLES)
+    } else {
+        step_text(OLDER_STEPS)
     }
 }
 

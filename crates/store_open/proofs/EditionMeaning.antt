@@ -1,5 +1,5 @@
 -- What the statements on editions and their bands mean.
-use Rattle.std.proofs.Common.{◌≡◌, refl, List, [], ◌∷◌, ℕ, codes, false}
+use Rattle.std.proofs.Common.{◌≡◌, refl, List, [], ◌∷◌, ℕ, codes, false, Bool}
 use Rattle.sqlite_value.specs.declared.value.Value.TheVariants.{Null}
 use Rattle.sqlite.specs.Term.{Term, lit, col}
 use Rattle.sqlite.specs.Source.TheVariants.{Values}
@@ -7,7 +7,7 @@ use Rattle.sqlite.specs.Command.TheVariants.{Insert, Select}
 use Rattle.sqlite.specs.Listing.{understood, reads_listing}
 use Rattle.sqlite.proofs.Callers.{IsPlain, command_of}
 use Rattle.sqlite_tied.specs.Compute.{everything}
-use Rattle.store_rows.specs.Schema.{house_schema}
+use Rattle.store_rows.specs.Schema.{house_by}
 use Rattle.store_rows.specs.Plain.{plain_query}
 use Rattle.store_rows.proofs.Select.{by_rowid}
 
@@ -36,20 +36,20 @@ edition_terms = col 0 0 ∷ lit Null ∷ col 0 1 ∷ []
 abbrev pub band_terms : List Term
 band_terms = lit Null ∷ col 0 0 ∷ col 0 1 ∷ col 0 2 ∷ []
 
-pub all_editions_are : (command_of (understood house_schema all_editions_text) ≡ Select (record { lets = []; body = plain_query 24 [] edition_shown by_rowid }) (codes "edition" ∷ codes "first" ∷ []))
-    × (reads_listing house_schema all_editions_text ≡ false) × IsPlain (understood house_schema all_editions_text)
+pub all_editions_are : (b : Bool) → (command_of (understood (house_by b) all_editions_text) ≡ Select (record { lets = []; body = plain_query 24 [] edition_shown by_rowid }) (codes "edition" ∷ codes "first" ∷ []))
+    × (reads_listing (house_by b) all_editions_text ≡ false) × IsPlain (understood (house_by b) all_editions_text)
 unfolding understood everything
-all_editions_are = (refl, refl, (refl, refl))
+all_editions_are b = (refl, refl, (refl, refl))
 
-pub all_bands_are : (command_of (understood house_schema all_bands_text) ≡ Select (record { lets = []; body = plain_query 25 [] band_shown by_rowid }) (codes "edition" ∷ codes "at" ∷ codes "step" ∷ []))
-    × (reads_listing house_schema all_bands_text ≡ false) × IsPlain (understood house_schema all_bands_text)
+pub all_bands_are : (b : Bool) → (command_of (understood (house_by b) all_bands_text) ≡ Select (record { lets = []; body = plain_query 25 [] band_shown by_rowid }) (codes "edition" ∷ codes "at" ∷ codes "step" ∷ []))
+    × (reads_listing (house_by b) all_bands_text ≡ false) × IsPlain (understood (house_by b) all_bands_text)
 unfolding understood everything
-all_bands_are = (refl, refl, (refl, refl))
+all_bands_are b = (refl, refl, (refl, refl))
 
-pub put_edition_is : (command_of (understood house_schema put_edition_text) ≡ Insert 10 (Values edition_terms 3)) × IsPlain (understood house_schema put_edition_text)
+pub put_edition_is : (b : Bool) → (command_of (understood (house_by b) put_edition_text) ≡ Insert 10 (Values edition_terms 3)) × IsPlain (understood (house_by b) put_edition_text)
 unfolding understood everything
-put_edition_is = (refl, (refl, refl))
+put_edition_is b = (refl, (refl, refl))
 
-pub put_later_band_is : (command_of (understood house_schema put_later_band_text) ≡ Insert 11 (Values band_terms 4)) × IsPlain (understood house_schema put_later_band_text)
+pub put_later_band_is : (b : Bool) → (command_of (understood (house_by b) put_later_band_text) ≡ Insert 11 (Values band_terms 4)) × IsPlain (understood (house_by b) put_later_band_text)
 unfolding understood everything
-put_later_band_is = (refl, (refl, refl))
+put_later_band_is b = (refl, (refl, refl))

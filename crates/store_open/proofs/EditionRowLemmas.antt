@@ -7,7 +7,7 @@ use Rattle.sqlite_trees.proofs.TreeLemmas.{IsShaped-put_row}
 use Rattle.sqlite.specs.Edit.{next_rowid}
 use Rattle.sqlite.specs.State.{State, Shown, Executes}
 use Rattle.sqlite.proofs.Callers.{reads_as}
-use Rattle.store_rows.specs.Schema.{edition_layout, house_schema, later_band_layout}
+use Rattle.store_rows.specs.Schema.{edition_layout, later_band_layout}
 use Rattle.store_rows.specs.House.{IsHouse}
 use Rattle.store_rows.specs.declared.edition.EditionRow.{EditionRow}
 use Rattle.store_rows.specs.Rows.{edition_row_in, edition_row_of, edition_rows_in, later_band_in, later_band_of, later_bands_in}
@@ -22,14 +22,14 @@ module _ (old new : State) (answer : List Row) (house : IsHouse old.now) where
   pub editions_answer : Shown all_editions_text [] old new answer → map edition_row_of answer ≡ edition_rows_in old.now.trees
   editions_answer h =
       let table = old.now.trees 24 in
-      let read = reads_as all_editions_text [] old new house_schema house.schema _ all_editions_are.0 all_editions_are.2 all_editions_are.1 answer h in
+      let read = reads_as all_editions_text [] old new _ house.schema _ (all_editions_are _).0 (all_editions_are _).2 (all_editions_are _).1 answer h in
       typed_all edition_row_of edition_row_in edition_shown [] table answer (λ r. refl)
       (in_order [] edition_shown [] table answer house.shaped.1.1.1.1.1.1.1.1.1.1.0.0 (listed 24 [] edition_shown by_rowid (overlay old.now.trees []) [] answer (read.answer Null)))
 
   pub bands_answer : Shown all_bands_text [] old new answer → map later_band_of answer ≡ later_bands_in old.now.trees
   bands_answer h =
       let table = old.now.trees 25 in
-      let read = reads_as all_bands_text [] old new house_schema house.schema _ all_bands_are.0 all_bands_are.2 all_bands_are.1 answer h in
+      let read = reads_as all_bands_text [] old new _ house.schema _ (all_bands_are _).0 (all_bands_are _).2 (all_bands_are _).1 answer h in
       typed_all later_band_of later_band_in band_shown [] table answer (λ r. refl)
       (in_order [] band_shown [] table answer house.shaped.1.1.1.1.1.1.1.1.1.1.1.0.0 (listed 25 [] band_shown by_rowid (overlay old.now.trees []) [] answer (read.answer Null)))
 
@@ -40,7 +40,7 @@ adds_edition old new edition first count low less house h =
     let rows = old.now.trees 24 in
     let shaped = house.shaped.1.1.1.1.1.1.1.1.1.1.0 in
     let given : Row = Int (pos edition) ∷ Null ∷ Int (pos first) ∷ [] in
-    let w = rw (cast_int (pos edition), cast_null, cast_int (pos first)) at (puts put_edition_text 10 edition_layout edition_terms 3 params given refl put_edition_is.0 put_edition_is.1 refl old new count house.schema h) in
+    let w = rw (cast_int (pos edition), cast_null, cast_int (pos first)) at (puts _ put_edition_text 10 edition_layout edition_terms 3 params given refl (put_edition_is _).0 (put_edition_is _).1 refl old new count house.schema h) in
     let back : edition_row_in given ≡ record { edition = edition; first = first } = rw (small edition low, small first less) refl in
     record {
       house = still_house 24 _ old.now new.now house w (IsShaped-put_row given rows refl shaped);
@@ -55,7 +55,7 @@ adds_later_band old new edition from step count low less few house h =
     let rows = old.now.trees 25 in
     let given : Row = Int (next_rowid rows) ∷ Int (pos edition) ∷ Int (pos from) ∷ Int (pos step) ∷ [] in
     let shaped = house.shaped.1.1.1.1.1.1.1.1.1.1.1.0 in
-    let w = rw (cast_null, cast_int (pos edition), cast_int (pos from), cast_int (pos step)) at (puts put_later_band_text 11 later_band_layout band_terms 4 params (Null ∷ params) refl put_later_band_is.0 put_later_band_is.1 refl old new count house.schema h) in
+    let w = rw (cast_null, cast_int (pos edition), cast_int (pos from), cast_int (pos step)) at (puts _ put_later_band_text 11 later_band_layout band_terms 4 params (Null ∷ params) refl (put_later_band_is _).0 (put_later_band_is _).1 refl old new count house.schema h) in
     let back : later_band_in given ≡ later_band edition (from, step) = rw (small edition low, small from less, small step few) refl in
     record {
       house = still_house 25 _ old.now new.now house w (IsShaped-put_row given rows refl shaped);

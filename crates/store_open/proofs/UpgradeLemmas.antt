@@ -1,5 +1,5 @@
 -- What an upgrade makes of a house of version 1.
-use Rattle.std.proofs.Common.{◌≡◌, ◌≢◌, ◌≤◌, ◌==◌, true, List, [], ◌∷◌, ◌++◌, drop, map, find, is_some, length, option_map, IfSome, IsTrue, Option, Some, None, unwrap_or, refl, sym, ap, subst, ◌∙◌, inl, inr, arith}
+use Rattle.std.proofs.Common.{◌≡◌, ◌≢◌, ◌≤◌, ◌==◌, true, List, [], ◌∷◌, ◌++◌, drop, map, find, is_some, length, option_map, IfSome, IsTrue, Option, Some, None, unwrap_or, refl, sym, ap, subst, ◌∙◌, inl, inr, arith, Bool}
 use Rattle.std.specs.List.{AllByRecursion}
 use Rattle.sqlite_trees.specs.Tree.{Trees}
 use Rattle.sqlite_trees.specs.View.{IsClean, IsQuiet, IsRolledBack as IsUndone}
@@ -19,7 +19,7 @@ use Rattle.store_rows.specs.House.{AddsTables, IsFirstHouse, IsHouse, SetsVersio
 use Rattle.store_rows.specs.Rows.{band_in, house_in, houses_in, later_band_in, reserve_in, reserves_in}
 use Rattle.store_rows.specs.ItemRows.{items_by}
 use Rattle.store_rows.specs.declared.reserve.ReserveRow.{ReserveRow}
-use Rattle.store_rows.specs.Schema.{first_schema, house_schema}
+use Rattle.store_rows.specs.Schema.{first_schema, house_schema, house_by}
 use Rattle.store_rows.specs.Tables.{house_row_in, settings_in, tables_in}
 use Rattle.store_rows.specs.declared.house.HouseRow.{HouseRow}
 use Rattle.store_house.specs.Opening.{AreNumbered, AreReserved, AreSet, Follows, FollowsOrGrows, IsFirstSetUp, IsReadable, IsSetUp, IsSoundFirst, IsSoundHouse, Upgraded, Upgrades, first_tables_in, version_in}
@@ -41,6 +41,7 @@ upgrades old mid new first adds version sets =
     record {
       was = (old, first, refl);
       house = sets.house;
+      indexed = sets.schema ∙ adds.indexed;
       version = subst (λ rows. option_map (λ (h : HouseRow). h.version) (find (λ (h : HouseRow). h.id == 1) (map house_in rows)) ≡ Some 1) rows version;
       houses = sets.houses ∙ ap (λ rows. map (with_version 2) (map house_in rows)) rows;
       others = both_kept old.trees mid.trees new.trees first_schema.tables adds.kept (front (λ t. t.tree ≢ 0 → new.trees t.tree ≡ mid.trees t.tree) first_schema.tables (drop 9 house_schema.tables) others);
@@ -200,15 +201,15 @@ module _ {S : Type 0} (g : Ghosts S) (settled : Settled g) (stays : Stays g) whe
 
 -- ---- what is sound of one version
 
-two_schemas : first_schema ≡ house_schema → ⊥
-two_schemas e = absurd (omega (arith, ap (λ (s : Schema). length s.tables) e))
+two_schemas : (b : Bool) → first_schema ≡ house_by b → ⊥
+two_schemas b e = absurd (omega (arith, ap (λ (s : Schema). length s.tables) e))
 
 -- a house of version 1 is none of version 2
 pub not_both : (db held : Database) → IsFirstHouse db → db.trees ≡ held.trees → ¬ IsSoundHouse held
-not_both db held first trees sound = two_schemas (sym first.schema ∙ one_schema db held first.sound trees sound.house.sound ∙ sound.house.schema)
+not_both db held first trees sound = two_schemas _ (sym first.schema ∙ one_schema db held first.sound trees sound.house.sound ∙ sound.house.schema)
 
 pub not_first : (db held : Database) → IsHouse db → db.trees ≡ held.trees → ¬ IsSoundFirst held
-not_first db held house trees sound = two_schemas (sym (sym house.schema ∙ one_schema db held house.sound trees sound.house.sound ∙ sound.house.schema))
+not_first db held house trees sound = two_schemas _ (sym (sym house.schema ∙ one_schema db held house.sound trees sound.house.sound ∙ sound.house.schema))
 
 pub sound_first_at : (db held : Database) → IsFirstHouse db → db.trees ≡ held.trees → IsSoundFirst held → IsSoundFirst db
 sound_first_at db held first trees sound = record { house = first; set_up = subst IsFirstSetUp (sym trees) sound.set_up; numbered = subst AreNumbered (sym trees) sound.numbered }

@@ -20,7 +20,7 @@ use Rattle.sqlite.proofs.Callers.{IsPlain, command_of, reads_as}
 use Rattle.store_rows.specs.House.{IsHouse}
 use Rattle.store_rows.specs.Plain.{plain_query, passes}
 use Rattle.store_rows.specs.Rows.{number_in}
-use Rattle.store_rows.specs.Schema.{house_schema}
+use Rattle.store_rows.specs.Schema.{house_by}
 use Rattle.store_rows.proofs.RowLemmas.{equals_number, alone}
 use Rattle.store_rows.proofs.Select.{IsListOf, listed, equals}
 use Rattle.store_rows.proofs.Compared.{at_least, below_zero, is_negative, without_strays}
@@ -35,13 +35,13 @@ under_zero at = op2 (Compare Lt Binary) (col 1 at) (lit (Int (pos 0)))
 
 abbrev pub Asks : List ℕ → ℕ → List Term → List Term → List (Term × Sorting) → List (List ℕ) → Type 0
 Asks sql tree test project order names =
-    (command_of (understood house_schema sql) ≡ Select (record { lets = []; body = plain_query tree test project order }) names) × (reads_listing house_schema sql ≡ false) × IsPlain (understood house_schema sql)
+    (b : Bool) → (command_of (understood (house_by b) sql) ≡ Select (record { lets = []; body = plain_query tree test project order }) names) × (reads_listing (house_by b) sql ≡ false) × IsPlain (understood (house_by b) sql)
 
 -- what a query shows is a list of the rows that WHERE keeps
 pub lists : (sql : List ℕ) (tree : ℕ) (test project : List Term) (order : List (Term × Sorting)) (names : List (List ℕ)) → Asks sql tree test project order names
     → ((db : Trees) → overlay db [] tree ≡ db tree) → (old new : State) (params : Row) (rows : List Row) → IsHouse old.now → Shown sql params old new rows → IsListOf (old.now.trees tree) test project order params rows
 lists sql tree test project order names is over old new params rows house h =
-    subst (λ table. IsListOf table test project order params rows) (over old.now.trees) (listed tree test project order (overlay old.now.trees []) params rows ((reads_as sql params old new house_schema house.schema _ is.0 is.2 is.1 rows h).answer Null))
+    subst (λ table. IsListOf table test project order params rows) (over old.now.trees) (listed tree test project order (overlay old.now.trees []) params rows ((reads_as sql params old new _ house.schema _ (is _).0 (is _).2 (is _).1 rows h).answer Null))
 
 -- WHERE one column is the first parameter, and another is negative, or the second parameter or more
 module _ (at other : ℕ) (n : ℕ) (low : n < 2 ^ 32) (r : Row) (at_is : is_int (column r at) ≡ true) (other_is : is_int (column r other) ≡ true) where

@@ -28,7 +28,7 @@ use Rattle.sqlite.specs.Effect.{Database}
 use Rattle.sqlite.specs.State.{State, mode_of, Executes}
 use Rattle.sqlite.proofs.Callers.{IsPlain, command_of, statement_of, runs_as, one_step}
 use Rattle.store_rows.specs.Plain.{plain_query, passes}
-use Rattle.store_rows.specs.Schema.{Layout, table_of, house_schema}
+use Rattle.store_rows.specs.Schema.{house_by, house_schema, Layout, table_of}
 use Rattle.store_rows.proofs.RowLemmas.{row_key, keyed}
 use Rattle.store_rows.proofs.Select.{IsListOf, outputs, listed}
 use Rattle.std.proofs.Common.{int_cmp}
@@ -84,19 +84,19 @@ table_cut test params table answer shaped a =
     let same : IsPermutation (map row_key kept) (map id a.ordered) = subst (λ l. IsPermutation l (map id a.ordered)) from (IsPermutation-map id out a.ordered a.same) in
     ap (without_all table) to ∙ sym (without_permuted (map row_key (filter (passes test params) table)) (map id a.ordered) same table) ∙ by_key (map row_key (filter (passes test params) table)) table shaped.1 ∙ removes_delete row_key (passes test params) table (keyed table shaped.0 shaped.1)
 
-module _ (sql : List ℕ) (at : ℕ) (layout : Layout) (test : List Term) (params : Row)
+module _ (b : Bool) (sql : List ℕ) (at : ℕ) (layout : Layout) (test : List Term) (params : Row)
     (found : slice_get house_schema.tables at ≡ Some (table_of layout)) (alone : (db : Trees) → overlay db [] layout.tree ≡ db layout.tree)
-    (is : command_of (understood house_schema sql) ≡ Delete at (record { lets = []; body = plain_query layout.tree test (col 1 0 ∷ []) [] }))
-    (plain : IsPlain (understood house_schema sql)) where
+    (is : command_of (understood (house_by b) sql) ≡ Delete at (record { lets = []; body = plain_query layout.tree test (col 1 0 ∷ []) [] }))
+    (plain : IsPlain (understood (house_by b) sql)) where
   -- The rows that WHERE keeps are gone, and the others stay.
-  pub deletes : (old new : State) (count : ℕ) → old.now.schema ≡ house_schema → IsShaped Table (old.now.trees layout.tree) → Executes sql params old new (Ok count)
+  pub deletes : (old new : State) (count : ℕ) → old.now.schema ≡ house_by b → IsShaped Table (old.now.trees layout.tree) → Executes sql params old new (Ok count)
       → Wrote layout.tree (filter (λ r. not (passes test params r)) (old.now.trees layout.tree)) old.now new.now × IsShaped Table (filter (λ r. not (passes test params r)) (old.now.trees layout.tree))
   deletes old new count schema shaped h =
       let db = old.now.trees in
       let command = Delete at (record { lets = []; body = plain_query layout.tree test (col 1 0 ∷ []) [] }) in
-      let w = runs_as sql params old new house_schema schema command is plain count h in
-      let text = statement_of sql (understood house_schema sql) in
-      let task : SqlTable → Task = λ t. record { limit = old.step_limit; keys = (mode_of old).keys; schema = house_schema; table = t; params = params } in
+      let w = runs_as sql params old new (house_by b) schema command is plain count h in
+      let text = statement_of sql (understood (house_by b) sql) in
+      let task : SqlTable → Task = λ t. record { limit = old.step_limit; keys = (mode_of old).keys; schema = house_by b; table = t; params = params } in
       let on = subst (λ s. Does old.step_limit (mode_of old) params (record old.now { schema = s }) text None command (Ok (w.tally, new.now))) schema w.changed in
       let whole = subst (λ o. AtPlace (λ t. OnRows (task t) (mode_of old) None command db) o (Ok (w.tally, new.now))) found on in
       let done = went whole in
@@ -105,11 +105,11 @@ module _ (sql : List ℕ) (at : ℕ) (layout : Layout) (test : List Term) (param
       let written = went given.2 in
       let trees : done.0.trees ≡ written.0 = ap (λ (it : Written). it.trees) (same_value written.2) in
       let edit = edit_of db (table_of layout) (ids_of given.0) Given 0 [] in
-      let applied = one_step house_schema Enforced db written.0 edit (no_works layout.tree (taken_by db edit) edit.news) written.1 in
+      let applied = one_step (house_by b) Enforced db written.0 edit (no_works b layout.tree (taken_by db edit) edit.news) written.1 in
       let answer = subst (λ (l : List Row). IsListOf l test (col 1 0 ∷ []) [] params given.0) (alone db) (listed layout.tree test (col 1 0 ∷ []) [] (overlay db []) params given.0 (given.1.answer Null)) in
       let end : new.now.trees ≡ written.0 = ap (λ (d : Database). d.trees) now ∙ trees in (
         record {
-          schema = ap (λ (d : Database). d.schema) now;
+          schema = ap (λ (d : Database). d.schema) now ∙ sym schema;
           rows_are = ap (λ (t : Trees). t layout.tree) end ∙ applied.rows ∙ table_cut test params (db layout.tree) given.0 shaped answer;
           others = subst (λ (t : Trees). AllByRecursion (λ s. (s.tree ≡ layout.tree → ⊥) → t s.tree ≡ db s.tree) house_schema.tables) (sym end) applied.tables;
           sound = w.sound;

@@ -1,5 +1,5 @@
 -- What the statements on the house and the bands find and write.
-use Rattle.std.proofs.Common.{◌≡◌, ◌==◌, ℕ, ◌^◌, ◌<◌, pos, true, List, [], ◌∷◌, map, filter, find, slice_get, option_map, drop, Ok, Some, None, refl, sym, ap, subst, ◌∙◌, IsTrue, arith}
+use Rattle.std.proofs.Common.{◌≡◌, ◌==◌, ℕ, ◌^◌, ◌<◌, pos, true, List, [], ◌∷◌, map, filter, find, slice_get, option_map, drop, Ok, Some, None, refl, sym, ap, subst, ◌∙◌, IsTrue, arith, Bool}
 use Rattle.sqlite_value.specs.declared.value.Value.TheVariants.{Null, Int}
 use Rattle.sqlite_value.specs.Order.{Row, column}
 use Rattle.sqlite_schema.specs.Rules.{are_typed, has_computed}
@@ -23,7 +23,7 @@ use Rattle.store_rows.specs.Begun.{IsInner, StaysInside}
 use Rattle.store_rows.specs.Plain.{plain_query}
 use Rattle.store_rows.proofs.BegunLemmas.{is_inner, wrote_inside}
 use Rattle.store_rows.specs.declared.house.HouseRow.{HouseRow}
-use Rattle.store_rows.specs.Schema.{house_schema, house_table, house_layout}
+use Rattle.store_rows.specs.Schema.{house_by, house_layout, house_table}
 use Rattle.store_rows.specs.Rows.{number_in, house_of, house_in, houses_in, band_of, band_in, bands_in}
 use Rattle.store_rows.specs.House.{IsHouse, IsInside, SetsClock, SetsVersion, with_clock, with_version}
 use Rattle.store_rows.proofs.RowLemmas.{equals_number, first_is, first_part, alone, row_key, small}
@@ -38,7 +38,7 @@ module _ (old new : State) (answer : List Row) (house : IsHouse old.now) where
   house_answer h =
       let params = Int (pos 1) ∷ [] in
       let table = old.now.trees 0 in
-      let read = reads_as house_text params old new house_schema house.schema _ house_is.0 house_is.2 house_is.1 answer h in
+      let read = reads_as house_text params old new _ house.schema _ (house_is _).0 (house_is _).2 (house_is _).1 answer h in
       let order = in_order (equals 0 ∷ []) house_shown params table answer house.shaped.0.0 (listed 0 (equals 0 ∷ []) house_shown by_rowid (overlay old.now.trees []) params answer (read.answer Null)) in
       let low : 1 < 2 ^ 32 = omega arith in
       typed_where house_of house_in (λ h. h.id == 1) (λ r. IsTrue (is_int (rowid r))) (equals 0 ∷ []) house_shown params table answer (λ r. refl) (λ r is. rw (equals_number (rowid r) 1 is low) (alone _)) house.shaped.0.1 order
@@ -50,7 +50,7 @@ module _ (old new : State) (answer : List Row) (house : IsHouse old.now) where
   version_answer h =
       let params = Int (pos 1) ∷ [] in
       let table = old.now.trees 0 in
-      let read = reads_as version_text params old new house_schema house.schema _ version_is.0 version_is.2 version_is.1 answer h in
+      let read = reads_as version_text params old new _ house.schema _ (version_is _).0 (version_is _).2 (version_is _).1 answer h in
       let order = in_order (equals 0 ∷ []) version_shown params table answer house.shaped.0.0 (listed 0 (equals 0 ∷ []) version_shown by_rowid (overlay old.now.trees []) params answer (read.answer Null)) in
       let low : 1 < 2 ^ 32 = omega arith in
       typed_part (λ r. number_in (column r 0)) house_in (λ (h : HouseRow). h.version) (λ h. h.id == 1) (λ r. IsTrue (is_int (rowid r))) (equals 0 ∷ []) version_shown params table answer (λ r. refl) (λ r is. rw (equals_number (rowid r) 1 is low) (alone _)) house.shaped.0.1 order
@@ -61,7 +61,7 @@ module _ (old new : State) (answer : List Row) (house : IsHouse old.now) where
   pub bands_answer : Shown bands_text [] old new answer → map band_of answer ≡ bands_in old.now.trees
   bands_answer h =
       let table = old.now.trees 1 in
-      let read = reads_as bands_text [] old new house_schema house.schema _ bands_are.0 bands_are.2 bands_are.1 answer h in
+      let read = reads_as bands_text [] old new _ house.schema _ (bands_are _).0 (bands_are _).2 (bands_are _).1 answer h in
       typed_all band_of band_in bands_shown [] table answer (λ r. refl)
       (in_order [] bands_shown [] table answer house.shaped.1.0.0 (listed 1 [] bands_shown by_rowid (overlay old.now.trees []) [] answer (read.answer Null)))
 
@@ -86,7 +86,7 @@ sets_clock old new moment count low house h =
     let rows = old.now.trees 0 in
     let sound = subst (λ s. IsSound s old.now.trees) house.schema house.sound in
     let typed = all_weaker _ IsTyped (λ r. first_of_both (are_typed (Some 0) 0 house_table.columns (drop 1 r)) (has_computed house_table r)) rows (sound.obeys.rules Datatype).0 in
-    let w = updates set_clock_text 0 house_layout clock_set 1 (Int (pos moment) ∷ []) (omega arith) refl (λ db. refl) set_clock_is.0 set_clock_is.1 (clocked moment) (λ r. refl) (λ r. refl) IsTyped (casts moment)
+    let w = updates _ set_clock_text 0 house_layout clock_set 1 (Int (pos moment) ∷ []) (omega arith) refl (λ db. refl) (set_clock_is _).0 (set_clock_is _).1 (clocked moment) (λ r. refl) (λ r. refl) IsTyped (casts moment)
     old new count house.schema house.shaped.0 typed h in
     record {
       house = still_house 0 _ old.now new.now house w.0 w.1;
@@ -112,10 +112,11 @@ sets_version old new version count low house h =
     let rows = old.now.trees 0 in
     let sound = subst (λ s. IsSound s old.now.trees) house.schema house.sound in
     let typed = all_weaker _ IsTyped (λ r. first_of_both (are_typed (Some 0) 0 house_table.columns (drop 1 r)) (has_computed house_table r)) rows (sound.obeys.rules Datatype).0 in
-    let w = updates set_version_text 0 house_layout version_set 1 (Int (pos version) ∷ []) (omega arith) refl (λ db. refl) set_version_is.0 set_version_is.1 (versioned version) (λ r. refl) (λ r. refl) IsTyped (casts_version version)
+    let w = updates _ set_version_text 0 house_layout version_set 1 (Int (pos version) ∷ []) (omega arith) refl (λ db. refl) (set_version_is _).0 (set_version_is _).1 (versioned version) (λ r. refl) (λ r. refl) IsTyped (casts_version version)
     old new count house.schema house.shaped.0 typed h in
     record {
       house = still_house 0 _ old.now new.now house w.0 w.1;
+      schema = w.0.schema;
       others = w.0.others;
       houses = ap (map house_in) w.0.rows_are ∙ typed_set house_in (with_version version) 1 (versioned version) rows house.shaped.0.1 (λ r e. rw (e, small version low) refl) (λ r e. rw e refl);
     }
@@ -123,9 +124,9 @@ sets_version old new version count low house h =
 version_is_inner : IsInner (Update 0 (record { lets = []; body = plain_query 0 (equals 0 ∷ []) (col 1 0 ∷ version_set) [] }))
 version_is_inner = ((λ e. absurd (let x = e in cc)), (λ name e. absurd (let x = e in cc)))
 
-pub version_stays_inside : (schema : Schema) → schema ≡ house_schema → StaysInside (understood schema set_version_text)
-version_stays_inside schema has = subst (λ s. StaysInside (understood s set_version_text)) (sym has) (is_inner _ (understood house_schema set_version_text) set_version_is.0 version_is_inner)
+pub version_stays_inside : (b : Bool) (schema : Schema) → schema ≡ house_by b → StaysInside (understood schema set_version_text)
+version_stays_inside b schema has = subst (λ s. StaysInside (understood s set_version_text)) (sym has) (is_inner _ (understood (house_by b) set_version_text) (set_version_is b).0 version_is_inner)
 
 pub version_inside : (old new : State) (version count : ℕ) → IsHouse old.now → IsTrue old.in_transaction → Executes set_version_text (Int (pos 1) ∷ Int (pos version) ∷ []) old new (Ok count) → IsInside old new
 version_inside old new version count house begun h =
-    wrote_inside old new None _ _ _ count begun (runs_as set_version_text (Int (pos 1) ∷ Int (pos version) ∷ []) old new house_schema house.schema _ set_version_is.0 set_version_is.1 count h)
+    wrote_inside old new None _ _ _ count begun (runs_as set_version_text (Int (pos 1) ∷ Int (pos version) ∷ []) old new _ house.schema _ (set_version_is _).0 (set_version_is _).1 count h)

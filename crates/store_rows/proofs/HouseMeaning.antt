@@ -1,12 +1,12 @@
 -- What the statements on the house and the bands mean.
-use Rattle.std.proofs.Common.{◌≡◌, refl, List, [], ◌∷◌, ℕ, codes, false}
+use Rattle.std.proofs.Common.{◌≡◌, refl, List, [], ◌∷◌, ℕ, codes, false, Bool}
 use Rattle.sqlite_value.specs.declared.value.Value.TheVariants.{Null}
 use Rattle.sqlite.specs.Term.{Term, lit, col}
 use Rattle.sqlite.specs.Command.TheVariants.{Select, Update}
 use Rattle.sqlite.specs.Listing.{understood, reads_listing}
 use Rattle.sqlite.proofs.Callers.{IsPlain, command_of}
 use Rattle.sqlite_tied.specs.Compute.{everything}
-use Rattle.store_rows.specs.Schema.{house_schema}
+use Rattle.store_rows.specs.Schema.{house_by}
 use Rattle.store_rows.specs.Plain.{plain_query}
 use Rattle.store_rows.proofs.Select.{by_rowid, equals}
 
@@ -41,26 +41,26 @@ clock_set = col 1 0 ∷ lit Null ∷ col 1 2 ∷ col 0 1 ∷ col 1 4 ∷ col 1 5
 abbrev pub version_set : List Term
 version_set = col 1 0 ∷ lit Null ∷ col 0 1 ∷ col 1 3 ∷ col 1 4 ∷ col 1 5 ∷ []
 
-pub version_is : (command_of (understood house_schema version_text) ≡ Select (record { lets = []; body = plain_query 0 (equals 0 ∷ []) version_shown by_rowid }) (codes "version" ∷ []))
-    × (reads_listing house_schema version_text ≡ false) × IsPlain (understood house_schema version_text)
+pub version_is : (b : Bool) → (command_of (understood (house_by b) version_text) ≡ Select (record { lets = []; body = plain_query 0 (equals 0 ∷ []) version_shown by_rowid }) (codes "version" ∷ []))
+    × (reads_listing (house_by b) version_text ≡ false) × IsPlain (understood (house_by b) version_text)
 unfolding understood everything
-version_is = (refl, refl, (refl, refl))
+version_is b = (refl, refl, (refl, refl))
 
-pub set_version_is : (command_of (understood house_schema set_version_text) ≡ Update 0 (record { lets = []; body = plain_query 0 (equals 0 ∷ []) (col 1 0 ∷ version_set) [] })) × IsPlain (understood house_schema set_version_text)
+pub set_version_is : (b : Bool) → (command_of (understood (house_by b) set_version_text) ≡ Update 0 (record { lets = []; body = plain_query 0 (equals 0 ∷ []) (col 1 0 ∷ version_set) [] })) × IsPlain (understood (house_by b) set_version_text)
 unfolding understood everything
-set_version_is = (refl, (refl, refl))
+set_version_is b = (refl, (refl, refl))
 
-pub house_is : (command_of (understood house_schema house_text)
+pub house_is : (b : Bool) → (command_of (understood (house_by b) house_text)
     ≡ Select (record { lets = []; body = plain_query 0 (equals 0 ∷ []) house_shown by_rowid }) (codes "id" ∷ codes "version" ∷ codes "clock" ∷ codes "rate" ∷ codes "zone" ∷ []))
-    × (reads_listing house_schema house_text ≡ false) × IsPlain (understood house_schema house_text)
+    × (reads_listing (house_by b) house_text ≡ false) × IsPlain (understood (house_by b) house_text)
 unfolding understood everything
-house_is = (refl, refl, (refl, refl))
+house_is b = (refl, refl, (refl, refl))
 
-pub set_clock_is : (command_of (understood house_schema set_clock_text) ≡ Update 0 (record { lets = []; body = plain_query 0 (equals 0 ∷ []) (col 1 0 ∷ clock_set) [] })) × IsPlain (understood house_schema set_clock_text)
+pub set_clock_is : (b : Bool) → (command_of (understood (house_by b) set_clock_text) ≡ Update 0 (record { lets = []; body = plain_query 0 (equals 0 ∷ []) (col 1 0 ∷ clock_set) [] })) × IsPlain (understood (house_by b) set_clock_text)
 unfolding understood everything
-set_clock_is = (refl, (refl, refl))
+set_clock_is b = (refl, (refl, refl))
 
-pub bands_are : (command_of (understood house_schema bands_text) ≡ Select (record { lets = []; body = plain_query 1 [] bands_shown by_rowid }) (codes "at" ∷ codes "step" ∷ []))
-    × (reads_listing house_schema bands_text ≡ false) × IsPlain (understood house_schema bands_text)
+pub bands_are : (b : Bool) → (command_of (understood (house_by b) bands_text) ≡ Select (record { lets = []; body = plain_query 1 [] bands_shown by_rowid }) (codes "at" ∷ codes "step" ∷ []))
+    × (reads_listing (house_by b) bands_text ≡ false) × IsPlain (understood (house_by b) bands_text)
 unfolding understood everything
-bands_are = (refl, refl, (refl, refl))
+bands_are b = (refl, refl, (refl, refl))

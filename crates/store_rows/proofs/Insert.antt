@@ -31,7 +31,7 @@ use Rattle.sqlite.specs.Listing.{understood}
 use Rattle.sqlite.specs.Effect.{Database, value_rows}
 use Rattle.sqlite.specs.State.{State, mode_of, Executes}
 use Rattle.sqlite.proofs.Callers.{IsPlain, command_of, statement_of, runs_as, one_step}
-use Rattle.store_rows.specs.Schema.{Layout, table_of, house_schema}
+use Rattle.store_rows.specs.Schema.{house_by, house_schema, Layout, table_of}
 use Rattle.store_rows.specs.Rows.{number_in}
 use Rattle.store_rows.proofs.RowLemmas.{row_key, keyed, id_below}
 use Rattle.store_rows.proofs.Wrote.{Wrote, no_works, went, same_value}
@@ -84,23 +84,23 @@ put_over inside number is new n rows shaped id small over =
 
 -- ---- the statement
 
-module _ (sql : List ℕ) (at : ℕ) (layout : Layout) (terms : List Term) (width : ℕ) (params row : Row)
+module _ (b : Bool) (sql : List ℕ) (at : ℕ) (layout : Layout) (terms : List Term) (width : ℕ) (params row : Row)
     (found : slice_get house_schema.tables at ≡ Some (table_of layout))
-    (is : command_of (understood house_schema sql) ≡ Insert at (Values terms width))
-    (plain : IsPlain (understood house_schema sql))
+    (is : command_of (understood (house_by b) sql) ≡ Insert at (Values terms width))
+    (plain : IsPlain (understood (house_by b) sql))
     (source : value_rows (params ++ []) width (length terms / width) terms ≡ row ∷ []) where
   abbrev table : SqlTable
   table = table_of layout
 
   -- The row is cast and numbered, and put in its place.
-  pub puts : (old new : State) (count : ℕ) → old.now.schema ≡ house_schema → Executes sql params old new (Ok count)
+  pub puts : (old new : State) (count : ℕ) → old.now.schema ≡ house_by b → Executes sql params old new (Ok count)
       → Wrote layout.tree (put_row (with_rowid Chosen (old.now.trees layout.tree) (cast_row table row)) (old.now.trees layout.tree)) old.now new.now
   puts old new count schema h =
       let db = old.now.trees in
       let command = Insert at (Values terms width) in
-      let w = runs_as sql params old new house_schema schema command is plain count h in
-      let text = statement_of sql (understood house_schema sql) in
-      let task : SqlTable → Task = λ t. record { limit = old.step_limit; keys = (mode_of old).keys; schema = house_schema; table = t; params = params } in
+      let w = runs_as sql params old new (house_by b) schema command is plain count h in
+      let text = statement_of sql (understood (house_by b) sql) in
+      let task : SqlTable → Task = λ t. record { limit = old.step_limit; keys = (mode_of old).keys; schema = house_by b; table = t; params = params } in
       let on = subst (λ s. Does old.step_limit (mode_of old) params (record old.now { schema = s }) text None command (Ok (w.tally, new.now))) schema w.changed in
       let all = subst (λ o. AtPlace (λ t. OnRows (task t) (mode_of old) None command db) o (Ok (w.tally, new.now))) found on in
       let done = went all in
@@ -111,11 +111,11 @@ module _ (sql : List ℕ) (at : ℕ) (layout : Layout) (terms : List Term) (widt
       let last = went written.2 in
       let trees : done.0.trees ≡ written.0 = ap (λ (it : Written). it.trees) (same_value last.2) ∙ same_value last.1 in
       let edit = edit_of db table [] Chosen 0 given.0 in
-      let applied = one_step house_schema Enforced db written.0 edit (no_works layout.tree (taken_by db edit) edit.news) written.1 in
+      let applied = one_step (house_by b) Enforced db written.0 edit (no_works b layout.tree (taken_by db edit) edit.news) written.1 in
       let news : edited db edit ≡ put_row (with_rowid Chosen (db layout.tree) (cast_row table row)) (db layout.tree) = ap (λ rows. edited db (edit_of db table [] Chosen 0 rows)) (given.1.1 ∙ source) in
       let end : new.now.trees ≡ written.0 = ap (λ (d : Database). d.trees) now ∙ trees in
       record {
-        schema = ap (λ (d : Database). d.schema) now;
+        schema = ap (λ (d : Database). d.schema) now ∙ sym schema;
         rows_are = ap (λ (t : Trees). t layout.tree) end ∙ applied.rows ∙ news;
         others = subst (λ (t : Trees). AllByRecursion (λ s. (s.tree ≡ layout.tree → ⊥) → t s.tree ≡ db s.tree) house_schema.tables) (sym end) applied.tables;
         sound = w.sound;

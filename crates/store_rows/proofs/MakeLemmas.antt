@@ -1,5 +1,5 @@
 -- What the statements that make the tables leave.
-use Rattle.std.proofs.Common.{IsTrue, ◌≡◌, ◌<◌, ◌≤◌, ◌+◌, ℕ, drop, zero, suc, List, [], ◌∷◌, ◌++◌, Ok, Some, None, slice_get, refl, sym, ap, subst, ◌∙◌, false, arith}
+use Rattle.std.proofs.Common.{IsTrue, ◌≡◌, ◌<◌, ◌≤◌, ◌+◌, ℕ, drop, zero, suc, List, [], ◌∷◌, ◌++◌, Ok, Some, None, slice_get, refl, sym, ap, subst, ◌∙◌, true, false, arith}
 use Rattle.std.specs.List.{AllByRecursion}
 use Rattle.sqlite_trees.specs.Tree.{Trees}
 use Rattle.sqlite_trees.specs.View.{IsShaped}
@@ -17,13 +17,13 @@ use Rattle.sqlite.specs.Listing.{understood}
 use Rattle.sqlite.specs.State.{State, Writes, Executes, mode_of}
 use Rattle.sqlite.proofs.Callers.{IsPlain, command_of, statement_of, runs_as}
 use Rattle.sqlite_tied.specs.Compute.{everything}
-use Rattle.store_rows.specs.Schema.{house_table, band_table, member_table, category_table, item_table, bid_table, watch_table, question_table, feedback_table, reserve_table, edition_table, later_band_table, item_by_category, item_by_seller, item_by_leader, item_by_end, bid_by_member, question_by_asker, feedback_by_receiver, first_schema, house_schema, no_schema}
-use Rattle.store_rows.specs.Texts.{make_house, make_band, make_member, make_category, make_item, make_bid, make_watch, make_question, make_feedback, make_item_by_category, make_item_by_seller, make_item_by_leader, make_item_by_end, make_bid_by_member, make_question_by_asker, make_feedback_by_receiver, make_reserve, make_edition, make_later_band}
+use Rattle.store_rows.specs.Schema.{band_table, bid_by_member, bid_table, category_table, edition_table, feedback_by_receiver, feedback_table, first_schema, house_schema, house_table, item_by_category, item_by_end, item_by_leader, item_by_seller, item_table, later_band_table, member_table, no_schema, question_by_asker, question_table, reserve_table, watch_by_item, watch_table}
+use Rattle.store_rows.specs.Texts.{make_house, make_band, make_member, make_category, make_item, make_bid, make_watch, make_question, make_feedback, make_item_by_category, make_item_by_seller, make_item_by_leader, make_item_by_end, make_bid_by_member, make_question_by_asker, make_feedback_by_receiver, make_reserve, make_edition, make_later_band, make_watch_by_item}
 use Rattle.store_rows.specs.House.{AddsTables, IsFirstHouse, IsInside}
 use Rattle.store_rows.proofs.BegunLemmas.{is_inner, wrote_inside}
 use Rattle.store_rows.specs.Begun.{IsInner, StaysInside}
 use Rattle.store_rows.specs.Making.{making_at, made_by, IsMade, IsGrown}
-use Rattle.store_rows.proofs.Making.{house_defined, band_defined, member_defined, category_defined, item_defined, bid_defined, watch_defined, question_defined, feedback_defined, item_by_category_defined, item_by_seller_defined, item_by_leader_defined, item_by_end_defined, bid_by_member_defined, question_by_asker_defined, feedback_by_receiver_defined, reserve_defined, edition_defined, later_band_defined}
+use Rattle.store_rows.proofs.Making.{house_defined, band_defined, member_defined, category_defined, item_defined, bid_defined, watch_defined, question_defined, feedback_defined, item_by_category_defined, item_by_seller_defined, item_by_leader_defined, item_by_end_defined, bid_by_member_defined, question_by_asker_defined, feedback_by_receiver_defined, reserve_defined, edition_defined, later_band_defined, watch_by_item_defined}
 use Rattle.store_rows.proofs.Wrote.{went, same_value}
 
 -- ---- lists of tables
@@ -77,11 +77,17 @@ table_made n old new sql table count command text plain defined made_is no_seque
       sound = λ _. w.sound;
     }
 
-index_made : (n : ℕ) (old new : State) (sql : List ℕ) (at : ℕ) (table : Table) (index : Index) (count : ℕ) → command_of (understood (made_by n) sql) ≡ CreateIndex at → statement_of sql (understood (made_by n) sql) ≡ sql → IsPlain (understood (made_by n) sql)
-    → slice_get (made_by n).tables at ≡ Some table → index_defined_by table sql ≡ Ok index → indexed (made_by n) table index ≡ made_by (n + 1) → IsMade n old.now → Executes sql [] old new (Ok count) → IsMade (n + 1) new.now
-index_made n old new sql at table index count command text plain found defined made_is was h =
-    let w = subst (λ t. Writes old new None (CreateIndex at) t [] count) text (runs_as sql [] old new (made_by n) was.schema (CreateIndex at) command plain count h) in
-    let on = subst (λ s. Does old.step_limit (mode_of old) [] (record old.now { schema = s }) sql None (CreateIndex at) (Ok (w.tally, new.now))) was.schema w.changed in
+-- one more index, over the rows that there were
+record AddsIndex (n : ℕ) (old new : Database) : Type 0 where
+  schema : new.schema ≡ made_by (n + 1)
+  kept : KeepsRows (made_by n).tables old.trees new.trees
+  sound : IsDatabase new
+
+index_added : (n : ℕ) (old new : State) (sql : List ℕ) (at : ℕ) (table : Table) (index : Index) (count : ℕ) → command_of (understood (made_by n) sql) ≡ CreateIndex at → statement_of sql (understood (made_by n) sql) ≡ sql → IsPlain (understood (made_by n) sql)
+    → slice_get (made_by n).tables at ≡ Some table → index_defined_by table sql ≡ Ok index → indexed (made_by n) table index ≡ made_by (n + 1) → old.now.schema ≡ made_by n → Executes sql [] old new (Ok count) → AddsIndex n old.now new.now
+index_added n old new sql at table index count command text plain found defined made_is was h =
+    let w = subst (λ t. Writes old new None (CreateIndex at) t [] count) text (runs_as sql [] old new (made_by n) was (CreateIndex at) command plain count h) in
+    let on = subst (λ s. Does old.step_limit (mode_of old) [] (record old.now { schema = s }) sql None (CreateIndex at) (Ok (w.tally, new.now))) was w.changed in
     let placed = subst (λ o. AtPlace (λ t. Defines (mode_of old) (MakesIndex sql (record old.now { schema = made_by n }) t)) o (Ok (w.tally, new.now))) found on in
     let all = went placed in
     let made_now = all.1 in
@@ -89,10 +95,21 @@ index_made n old new sql at table index count command text plain found defined m
     let same : made_now.index ≡ index = cc in
     let schema : all.0.schema ≡ made_by (n + 1) = made_now.is ∙ ap (indexed (made_by n) table) same ∙ made_is in
     let now : new.now ≡ all.0 = ap (λ (p : Tally × Database). p.1) (same_value all.2) in
-    let each = keep_empty old.now.trees all.0.trees (made_by n).tables made_now.rows was.empty in
+    let rows : KeepsRows (made_by n).tables old.now.trees all.0.trees = made_now.rows in
     record {
       schema = ap (λ (d : Database). d.schema) now ∙ schema;
-      empty = subst (λ (d : Database). AllByRecursion (λ t. d.trees t.tree ≡ []) (made_by (n + 1)).tables) (sym now) (subst (λ (s : Schema). AllByRecursion (λ t. all.0.trees t.tree ≡ []) s.tables) made_is each);
+      kept = subst (λ (d : Database). KeepsRows (made_by n).tables old.now.trees d.trees) (sym now) rows;
+      sound = w.sound;
+    }
+
+index_made : (n : ℕ) (old new : State) (sql : List ℕ) (at : ℕ) (table : Table) (index : Index) (count : ℕ) → command_of (understood (made_by n) sql) ≡ CreateIndex at → statement_of sql (understood (made_by n) sql) ≡ sql → IsPlain (understood (made_by n) sql)
+    → slice_get (made_by n).tables at ≡ Some table → index_defined_by table sql ≡ Ok index → indexed (made_by n) table index ≡ made_by (n + 1) → IsMade n old.now → Executes sql [] old new (Ok count) → IsMade (n + 1) new.now
+index_made n old new sql at table index count command text plain found defined made_is was h =
+    let w = index_added n old new sql at table index count command text plain found defined made_is was.schema h in
+    let each = keep_empty old.now.trees new.now.trees (made_by n).tables w.kept was.empty in
+    record {
+      schema = w.schema;
+      empty = subst (λ (s : Schema). AllByRecursion (λ t. new.now.trees t.tree ≡ []) s.tables) made_is each;
       sound = λ _. w.sound;
     }
 
@@ -174,9 +191,13 @@ pub later_band_is : (command_of (understood (made_by 18) make_later_band) ≡ Cr
 unfolding understood everything
 later_band_is = (refl, refl, (refl, refl))
 
+watch_by_item_is : (command_of (understood (made_by 19) make_watch_by_item) ≡ CreateIndex 6) × (statement_of make_watch_by_item (understood (made_by 19) make_watch_by_item) ≡ make_watch_by_item) × IsPlain (understood (made_by 19) make_watch_by_item)
+unfolding understood everything
+watch_by_item_is = (refl, refl, (refl, refl))
+
 -- ---- all of them
 
-pub makes_step : (n : ℕ) → n < 19 → (old new : State) (count : ℕ) → IsMade n old.now → Executes (making_at n) [] old new (Ok count) → IsMade (n + 1) new.now
+pub makes_step : (n : ℕ) → n < 20 → (old new : State) (count : ℕ) → IsMade n old.now → Executes (making_at n) [] old new (Ok count) → IsMade (n + 1) new.now
 makes_step zero low old new count was h = table_made 0 old new make_house (record house_table { tree = 0 }) count house_is.0 house_is.1 house_is.2 house_defined refl refl was h
 makes_step (suc zero) low old new count was h = table_made 1 old new make_band (record band_table { tree = 0 }) count band_is.0 band_is.1 band_is.2 band_defined refl refl was h
 makes_step (suc (suc zero)) low old new count was h = table_made 2 old new make_member (record member_table { tree = 0 }) count member_is.0 member_is.1 member_is.2 member_defined refl refl was h
@@ -196,13 +217,14 @@ makes_step (suc (suc (suc (suc (suc (suc (suc (suc (suc (suc (suc (suc (suc (suc
 makes_step (suc (suc (suc (suc (suc (suc (suc (suc (suc (suc (suc (suc (suc (suc (suc (suc zero)))))))))))))))) low old new count was h = table_made 16 old new make_reserve (record reserve_table { tree = 0 }) count reserve_is.0 reserve_is.1 reserve_is.2 reserve_defined refl refl was h
 makes_step (suc (suc (suc (suc (suc (suc (suc (suc (suc (suc (suc (suc (suc (suc (suc (suc (suc zero))))))))))))))))) low old new count was h = table_made 17 old new make_edition (record edition_table { tree = 0 }) count edition_is.0 edition_is.1 edition_is.2 edition_defined refl refl was h
 makes_step (suc (suc (suc (suc (suc (suc (suc (suc (suc (suc (suc (suc (suc (suc (suc (suc (suc (suc zero)))))))))))))))))) low old new count was h = table_made 18 old new make_later_band (record later_band_table { tree = 0 }) count later_band_is.0 later_band_is.1 later_band_is.2 later_band_defined refl refl was h
-makes_step (suc (suc (suc (suc (suc (suc (suc (suc (suc (suc (suc (suc (suc (suc (suc (suc (suc (suc (suc n))))))))))))))))))) low old new count was h = absurd (omega (arith, low))
+makes_step (suc (suc (suc (suc (suc (suc (suc (suc (suc (suc (suc (suc (suc (suc (suc (suc (suc (suc (suc zero))))))))))))))))))) low old new count was h = index_made 19 old new make_watch_by_item 6 watch_table (record watch_by_item { tree = 0 }) count watch_by_item_is.0 watch_by_item_is.1 watch_by_item_is.2 refl watch_by_item_defined refl was h
+makes_step (suc (suc (suc (suc (suc (suc (suc (suc (suc (suc (suc (suc (suc (suc (suc (suc (suc (suc (suc (suc n)))))))))))))))))))) low old new count was h = absurd (omega (arith, low))
 
 -- none are made
 pub blank_made : (db : Database) → db.schema ≡ no_schema → IsMade 0 db
 blank_made db blank = record { schema = blank; empty = tt; sound = λ less. absurd (omega (arith, less)) }
 
--- ---- the last three, over the rows of a house of version 1
+-- ---- the last four, over the rows of a house of version 1
 
 keep_twice : (first old new : Trees) (tables : List Table) → KeepsRows tables first old → KeepsRows tables old new → KeepsRows tables first new
 keep_twice first old new [] one two = tt
@@ -224,7 +246,17 @@ grown_by n first old new table split more was w =
       sound = w.sound;
     }
 
-pub grows_step : (n : ℕ) → 16 ≤ n → n < 19 → (first : Trees) (old new : State) (count : ℕ) → IsGrown n first old.now → Executes (making_at n) [] old new (Ok count) → IsGrown (n + 1) first new.now
+grown_on : (first : Trees) (old new : Database) → IsGrown 19 first old → AddsIndex 19 old new → IsGrown 20 first new
+grown_on first old new was w =
+    let kept = parts (λ t. new.trees t.tree ≡ old.trees t.tree) first_schema.tables (drop 9 (made_by 19).tables) w.kept in
+    record {
+      schema = w.schema;
+      kept = keep_twice first old.trees new.trees first_schema.tables was.kept kept.0;
+      empty = keep_empty old.trees new.trees (drop 9 (made_by 19).tables) kept.1 was.empty;
+      sound = w.sound;
+    }
+
+pub grows_step : (n : ℕ) → 16 ≤ n → n < 20 → (first : Trees) (old new : State) (count : ℕ) → IsGrown n first old.now → Executes (making_at n) [] old new (Ok count) → IsGrown (n + 1) first new.now
 grows_step zero low high first old new count was h = absurd (omega (arith, low))
 grows_step (suc zero) low high first old new count was h = absurd (omega (arith, low))
 grows_step (suc (suc zero)) low high first old new count was h = absurd (omega (arith, low))
@@ -244,7 +276,8 @@ grows_step (suc (suc (suc (suc (suc (suc (suc (suc (suc (suc (suc (suc (suc (suc
 grows_step (suc (suc (suc (suc (suc (suc (suc (suc (suc (suc (suc (suc (suc (suc (suc (suc zero)))))))))))))))) low high first old new count was h = grown_by 16 first old.now new.now (record reserve_table { tree = 0 }) refl refl was (table_added 16 old new make_reserve (record reserve_table { tree = 0 }) count reserve_is.0 reserve_is.1 reserve_is.2 reserve_defined refl refl was.schema h)
 grows_step (suc (suc (suc (suc (suc (suc (suc (suc (suc (suc (suc (suc (suc (suc (suc (suc (suc zero))))))))))))))))) low high first old new count was h = grown_by 17 first old.now new.now (record edition_table { tree = 0 }) refl refl was (table_added 17 old new make_edition (record edition_table { tree = 0 }) count edition_is.0 edition_is.1 edition_is.2 edition_defined refl refl was.schema h)
 grows_step (suc (suc (suc (suc (suc (suc (suc (suc (suc (suc (suc (suc (suc (suc (suc (suc (suc (suc zero)))))))))))))))))) low high first old new count was h = grown_by 18 first old.now new.now (record later_band_table { tree = 0 }) refl refl was (table_added 18 old new make_later_band (record later_band_table { tree = 0 }) count later_band_is.0 later_band_is.1 later_band_is.2 later_band_defined refl refl was.schema h)
-grows_step (suc (suc (suc (suc (suc (suc (suc (suc (suc (suc (suc (suc (suc (suc (suc (suc (suc (suc (suc n))))))))))))))))))) low high first old new count was h = absurd (omega (arith, high))
+grows_step (suc (suc (suc (suc (suc (suc (suc (suc (suc (suc (suc (suc (suc (suc (suc (suc (suc (suc (suc zero))))))))))))))))))) low high first old new count was h = grown_on first old.now new.now was (index_added 19 old new make_watch_by_item 6 watch_table (record watch_by_item { tree = 0 }) count watch_by_item_is.0 watch_by_item_is.1 watch_by_item_is.2 refl watch_by_item_defined refl was.schema h)
+grows_step (suc (suc (suc (suc (suc (suc (suc (suc (suc (suc (suc (suc (suc (suc (suc (suc (suc (suc (suc (suc n)))))))))))))))))))) low high first old new count was h = absurd (omega (arith, high))
 
 pub none_grown : (db : Database) → IsFirstHouse db → IsGrown 16 db.trees db
 none_grown db house = record { schema = house.schema; kept = same first_schema.tables; empty = tt; sound = house.sound }
@@ -253,13 +286,15 @@ none_grown db house = record { schema = house.schema; kept = same first_schema.t
     same [] = tt
     same (t ∷ tables) = (refl, same tables)
 
-pub all_grown : (first db : Database) → IsFirstHouse first → IsGrown 19 first.trees db → AddsTables first db
+pub all_grown : (first db : Database) → IsFirstHouse first → IsGrown 20 first.trees db → AddsTables first db
 all_grown first db house grown = record {
   house = record {
+    is_indexed = true;
     schema = grown.schema;
     shaped = both (λ t. IsShaped shape.Table (db.trees t.tree)) first_schema.tables (drop 9 house_schema.tables) (kept first_schema.tables grown.kept house.shaped) (none (drop 9 house_schema.tables) grown.empty);
     sound = grown.sound;
   };
+  indexed = grown.schema;
   kept = grown.kept;
   reserves = grown.empty.0;
   editions = grown.empty.1.0;
@@ -284,7 +319,13 @@ create_is_inner = ((λ e. absurd (let x = e in cc)), (λ name e. absurd (let x =
 table_is_inner : (n : ℕ) (sql : List ℕ) → command_of (understood (made_by n) sql) ≡ CreateTable → (schema : Schema) → schema ≡ made_by n → StaysInside (understood schema sql)
 table_is_inner n sql is schema has = subst (λ s. StaysInside (understood s sql)) (sym has) (is_inner CreateTable (understood (made_by n) sql) is create_is_inner)
 
-pub step_is_inner : (n : ℕ) → 16 ≤ n → n < 19 → (schema : Schema) → schema ≡ made_by n → StaysInside (understood schema (making_at n))
+create_index_is_inner : (at : ℕ) → IsInner (CreateIndex at)
+create_index_is_inner at = ((λ e. absurd (let x = e in cc)), (λ name e. absurd (let x = e in cc)))
+
+index_is_inner : (schema : Schema) → schema ≡ made_by 19 → StaysInside (understood schema make_watch_by_item)
+index_is_inner schema has = subst (λ s. StaysInside (understood s make_watch_by_item)) (sym has) (is_inner (CreateIndex 6) (understood (made_by 19) make_watch_by_item) watch_by_item_is.0 (create_index_is_inner 6))
+
+pub step_is_inner : (n : ℕ) → 16 ≤ n → n < 20 → (schema : Schema) → schema ≡ made_by n → StaysInside (understood schema (making_at n))
 step_is_inner zero low high schema has = absurd (omega (arith, low))
 step_is_inner (suc zero) low high schema has = absurd (omega (arith, low))
 step_is_inner (suc (suc zero)) low high schema has = absurd (omega (arith, low))
@@ -304,13 +345,18 @@ step_is_inner (suc (suc (suc (suc (suc (suc (suc (suc (suc (suc (suc (suc (suc (
 step_is_inner (suc (suc (suc (suc (suc (suc (suc (suc (suc (suc (suc (suc (suc (suc (suc (suc zero)))))))))))))))) low high schema has = table_is_inner 16 make_reserve reserve_is.0 schema has
 step_is_inner (suc (suc (suc (suc (suc (suc (suc (suc (suc (suc (suc (suc (suc (suc (suc (suc (suc zero))))))))))))))))) low high schema has = table_is_inner 17 make_edition edition_is.0 schema has
 step_is_inner (suc (suc (suc (suc (suc (suc (suc (suc (suc (suc (suc (suc (suc (suc (suc (suc (suc (suc zero)))))))))))))))))) low high schema has = table_is_inner 18 make_later_band later_band_is.0 schema has
-step_is_inner (suc (suc (suc (suc (suc (suc (suc (suc (suc (suc (suc (suc (suc (suc (suc (suc (suc (suc (suc n))))))))))))))))))) low high schema has = absurd (omega (arith, high))
+step_is_inner (suc (suc (suc (suc (suc (suc (suc (suc (suc (suc (suc (suc (suc (suc (suc (suc (suc (suc (suc zero))))))))))))))))))) low high schema has = index_is_inner schema has
+step_is_inner (suc (suc (suc (suc (suc (suc (suc (suc (suc (suc (suc (suc (suc (suc (suc (suc (suc (suc (suc (suc n)))))))))))))))))))) low high schema has = absurd (omega (arith, high))
 
 table_inside : (n : ℕ) (old new : State) (sql : List ℕ) (count : ℕ) → command_of (understood (made_by n) sql) ≡ CreateTable → IsPlain (understood (made_by n) sql) → old.now.schema ≡ made_by n → IsTrue old.in_transaction
     → Executes sql [] old new (Ok count) → IsInside old new
 table_inside n old new sql count command plain was begun h = wrote_inside old new None CreateTable _ [] count begun (runs_as sql [] old new (made_by n) was CreateTable command plain count h)
 
-pub step_inside : (n : ℕ) → 16 ≤ n → n < 19 → (old new : State) (count : ℕ) → old.now.schema ≡ made_by n → IsTrue old.in_transaction → Executes (making_at n) [] old new (Ok count) → IsInside old new
+index_inside : (old new : State) (count : ℕ) → old.now.schema ≡ made_by 19 → IsTrue old.in_transaction → Executes make_watch_by_item [] old new (Ok count) → IsInside old new
+index_inside old new count was begun h =
+    wrote_inside old new None (CreateIndex 6) _ [] count begun (runs_as make_watch_by_item [] old new (made_by 19) was (CreateIndex 6) watch_by_item_is.0 watch_by_item_is.2 count h)
+
+pub step_inside : (n : ℕ) → 16 ≤ n → n < 20 → (old new : State) (count : ℕ) → old.now.schema ≡ made_by n → IsTrue old.in_transaction → Executes (making_at n) [] old new (Ok count) → IsInside old new
 step_inside zero low high old new count was begun h = absurd (omega (arith, low))
 step_inside (suc zero) low high old new count was begun h = absurd (omega (arith, low))
 step_inside (suc (suc zero)) low high old new count was begun h = absurd (omega (arith, low))
@@ -330,4 +376,5 @@ step_inside (suc (suc (suc (suc (suc (suc (suc (suc (suc (suc (suc (suc (suc (su
 step_inside (suc (suc (suc (suc (suc (suc (suc (suc (suc (suc (suc (suc (suc (suc (suc (suc zero)))))))))))))))) low high old new count was begun h = table_inside 16 old new make_reserve count reserve_is.0 reserve_is.2 was begun h
 step_inside (suc (suc (suc (suc (suc (suc (suc (suc (suc (suc (suc (suc (suc (suc (suc (suc (suc zero))))))))))))))))) low high old new count was begun h = table_inside 17 old new make_edition count edition_is.0 edition_is.2 was begun h
 step_inside (suc (suc (suc (suc (suc (suc (suc (suc (suc (suc (suc (suc (suc (suc (suc (suc (suc (suc zero)))))))))))))))))) low high old new count was begun h = table_inside 18 old new make_later_band count later_band_is.0 later_band_is.2 was begun h
-step_inside (suc (suc (suc (suc (suc (suc (suc (suc (suc (suc (suc (suc (suc (suc (suc (suc (suc (suc (suc n))))))))))))))))))) low high old new count was begun h = absurd (omega (arith, high))
+step_inside (suc (suc (suc (suc (suc (suc (suc (suc (suc (suc (suc (suc (suc (suc (suc (suc (suc (suc (suc zero))))))))))))))))))) low high old new count was begun h = index_inside old new count was begun h
+step_inside (suc (suc (suc (suc (suc (suc (suc (suc (suc (suc (suc (suc (suc (suc (suc (suc (suc (suc (suc (suc n)))))))))))))))))))) low high old new count was begun h = absurd (omega (arith, high))

@@ -4,8 +4,8 @@ use Rattle.sqlite.specs.Compile.{table_defined_by}
 use Rattle.sqlite.specs.Listing.{understood}
 use Rattle.sqlite_resolve.specs.Compile.{index_defined_by}
 use Rattle.sqlite_tied.specs.Compute.{everything}
-use Rattle.store_rows.specs.Schema.{house_table, band_table, member_table, category_table, item_table, bid_table, watch_table, question_table, feedback_table, reserve_table, edition_table, later_band_table, item_by_category, item_by_seller, item_by_leader, item_by_end, bid_by_member, question_by_asker, feedback_by_receiver}
-use Rattle.store_rows.specs.Texts.{make_house, make_band, make_member, make_category, make_item, make_bid, make_watch, make_question, make_feedback, make_item_by_category, make_item_by_seller, make_item_by_leader, make_item_by_end, make_bid_by_member, make_question_by_asker, make_feedback_by_receiver, make_reserve, make_edition, make_later_band}
+use Rattle.store_rows.specs.Schema.{house_table, band_table, member_table, category_table, item_table, bid_table, watch_table, question_table, feedback_table, reserve_table, edition_table, later_band_table, item_by_category, item_by_seller, item_by_leader, item_by_end, bid_by_member, question_by_asker, feedback_by_receiver, watch_by_item}
+use Rattle.store_rows.specs.Texts.{make_house, make_band, make_member, make_category, make_item, make_bid, make_watch, make_question, make_feedback, make_item_by_category, make_item_by_seller, make_item_by_leader, make_item_by_end, make_bid_by_member, make_question_by_asker, make_feedback_by_receiver, make_reserve, make_edition, make_later_band, make_watch_by_item}
 
 pub house_defined : table_defined_by make_house ≡ Ok (record house_table { tree = 0 })
 unfolding understood everything
@@ -82,3 +82,7 @@ edition_defined = refl
 pub later_band_defined : table_defined_by make_later_band ≡ Ok (record later_band_table { tree = 0 })
 unfolding understood everything
 later_band_defined = refl
+
+pub watch_by_item_defined : index_defined_by watch_table make_watch_by_item ≡ Ok (record watch_by_item { tree = 0 })
+unfolding understood everything
+watch_by_item_defined = refl

@@ -12,7 +12,7 @@ use Rattle.sqlite.specs.Listing.{understood, reads_listing, IsSourceOf}
 use Rattle.sqlite.specs.State.{State, IsUnchanged, IsStatement, Shown, ShowsRows, Begins}
 use Rattle.sqlite.proofs.Callers.{IsPlain, EndsIn, begins_shown, unchanged_then}
 use Rattle.store_rows.specs.House.{IsHouse}
-use Rattle.store_rows.specs.Schema.{house_schema}
+use Rattle.store_rows.specs.Statements.{AlwaysFinite, AlwaysPlain}
 use Rattle.store_rows.specs.First.{HasNoWith, IsFinite, ShowsFirst}
 
 module _ (sql : List ℕ) (params : Row) (old mid : State) (same : IsUnchanged old mid) where
@@ -69,7 +69,7 @@ taken_front zero (x ∷ xs) ys is = absurd (omega (arith, is))
 taken_front (suc n) [] ys is = absurd (omega (arith, is))
 taken_front (suc n) (x ∷ xs) ys is = ap (λ l. x ∷ l) (taken_front n xs ys (omega (arith, is)))
 
-pub shows_first : (most : ℕ) (sql : List ℕ) (params : Row) (old new : State) (rows : List Row) → IsHouse old.now → IsPlain (understood house_schema sql) → IsFinite (understood house_schema sql)
+pub shows_first : (most : ℕ) (sql : List ℕ) (params : Row) (old new : State) (rows : List Row) → IsHouse old.now → AlwaysPlain sql → AlwaysFinite sql
     → IsUnchanged old new → Begins sql params new rows → length rows ≤ most → (length rows < most → Shown sql params old new rows) → ShowsFirst most sql params old new rows
 shows_first most sql params old new rows house plain finite same begins few whole = elim (either (length rows) most few) [
   | inl less ↦ record { all = rows; shown = whole less; are = taken_all most rows less }
@@ -83,4 +83,4 @@ shows_first most sql params old new rows house plain finite same begins few whol
     ending : (c : Compiled) (db : Database) (it : IsStatement old sql params c) → IsSourceOf (reads_listing old.now.schema sql) old.now db → EndsIn c.command db (timed params c.formats it.now)
     ending c db it source =
         let known = sym (ap (λ s. understood s sql) house.schema) ∙ it.is in
-        ends_in c.command db (timed params c.formats it.now) (subst IsFinite known finite)
+        ends_in c.command db (timed params c.formats it.now) (subst IsFinite known (finite house.is_indexed))

@@ -7,7 +7,7 @@ use Rattle.sqlite.specs.State.{State, HasCleanDisk, IsUnchanged, IsRolledBack, K
 use Rattle.sqlite.specs.Listing.{understood}
 use Rattle.sqlite.proofs.StateLemmas.{survives_weaker}
 use Rattle.sqlite.proofs.Callers.{IsPlain, never_commits}
-use Rattle.store_rows.specs.Schema.{house_schema}
+use Rattle.store_rows.specs.Statements.{AlwaysPlain}
 use Rattle.store_rows.specs.House.{IsHouse}
 
 -- what holds anyway holds of an error
@@ -68,8 +68,8 @@ still_committed old now new was_open same (inl kept) = record { was_open = λ _.
 still_committed old now new was_open same (inr undone) = record { was_open = λ _. was_open; committed = λ is_open. (undone.undone is_open).1 ∙ same }
 
 -- what is plain over the schema of a house is so on a connection that holds one
-pub plain_at : (sql : List ℕ) (s : State) → IsPlain (understood house_schema sql) → IsHouse s.now → IsPlain (understood s.now.schema sql)
-plain_at sql s plain house = subst (λ x. IsPlain (understood x sql)) (sym house.schema) plain
+pub plain_at : (sql : List ℕ) (s : State) → AlwaysPlain sql → IsHouse s.now → IsPlain (understood s.now.schema sql)
+plain_at sql s plain house = subst (λ x. IsPlain (understood x sql)) (sym house.schema) (plain house.is_indexed)
 
 -- what holds of a value that is there
 pub on_ok_where : {T E P Q : Type 0} (r : Result T E) → OnOk r P → (P → Q) → OnOk r Q

@@ -48,7 +48,7 @@ use Rattle.sqlite_schema.specs.declared.schema.Table.{Table as SqlTable}
 use Rattle.sqlite_rules.specs.Cast.{cast_row}
 use Rattle.store_rows.specs.Plain.{plain_query, passes, shown_by}
 use Rattle.store_rows.specs.Rows.{number_in}
-use Rattle.store_rows.specs.Schema.{Layout, table_of, house_schema}
+use Rattle.store_rows.specs.Schema.{house_by, house_schema, Layout, table_of}
 use Rattle.store_rows.proofs.RowLemmas.{row_key, keyed, one_row, key_of_number, other_key, equals_number, filter_same_on}
 use Rattle.store_rows.proofs.Select.{IsListOf, outputs, listed, equals}
 use Rattle.store_rows.proofs.Insert.{cast_null, cast_int}
@@ -326,23 +326,23 @@ module _ (layout : Layout) (n : ℕ) (low : n < 2 ^ 32) (set : Row → Row) (sam
       ∙ Rattle.sqlite_keyed.proofs.ListLemmas.map_same _ (λ r. rowid r ∷ set r) (λ r. ap (λ l. rowid r ∷ l) (sets r)) _ ∙ ap (map (λ r. rowid r ∷ set r)) kept in
       subst (λ found. IsSet (edited db (edit_with found))) (sym shown) (set_in (filter (is_numbered n) rows) refl (one_row rows n shaped low))
 
-module _ (sql : List ℕ) (at : ℕ) (layout : Layout) (terms : List Term) (n : ℕ) (more : Row) (low : n < 2 ^ 32)
+module _ (b : Bool) (sql : List ℕ) (at : ℕ) (layout : Layout) (terms : List Term) (n : ℕ) (more : Row) (low : n < 2 ^ 32)
     (found : slice_get house_schema.tables at ≡ Some (table_of layout)) (alone : (db : Trees) → overlay db [] layout.tree ≡ db layout.tree)
-    (is : command_of (understood house_schema sql) ≡ Update at (record { lets = []; body = plain_query layout.tree (equals 0 ∷ []) (col 1 0 ∷ terms) [] }))
-    (plain : IsPlain (understood house_schema sql))
+    (is : command_of (understood (house_by b) sql) ≡ Update at (record { lets = []; body = plain_query layout.tree (equals 0 ∷ []) (col 1 0 ∷ terms) [] }))
+    (plain : IsPlain (understood (house_by b) sql))
     (set : Row → Row) (sets : (r : Row) → shown_by terms (Int (pos n) ∷ more) r ≡ set r) (same_id : (r : Row) → rowid (set r) ≡ rowid r) (P : Row → Type 0)
     (casts : (r : Row) → P r → IsTrue (is_int (rowid r)) → cast_row (table_of layout) (set r) ≡ set r) where
   -- The row with the number is set, and the others stay.
-  pub updates : (old new : State) (count : ℕ) → old.now.schema ≡ house_schema → IsShaped Table (old.now.trees layout.tree) → AllByRecursion P (old.now.trees layout.tree)
+  pub updates : (old new : State) (count : ℕ) → old.now.schema ≡ house_by b → IsShaped Table (old.now.trees layout.tree) → AllByRecursion P (old.now.trees layout.tree)
       → Executes sql (Int (pos n) ∷ more) old new (Ok count)
       → Wrote layout.tree (set_rows n set (old.now.trees layout.tree)) old.now new.now × IsShaped Table (set_rows n set (old.now.trees layout.tree))
   updates old new count schema shaped all h =
       let params = Int (pos n) ∷ more in
       let db = old.now.trees in
       let command = Update at (record { lets = []; body = plain_query layout.tree (equals 0 ∷ []) (col 1 0 ∷ terms) [] }) in
-      let w = runs_as sql params old new house_schema schema command is plain count h in
-      let text = statement_of sql (understood house_schema sql) in
-      let task : SqlTable → Task = λ t. record { limit = old.step_limit; keys = (mode_of old).keys; schema = house_schema; table = t; params = params } in
+      let w = runs_as sql params old new (house_by b) schema command is plain count h in
+      let text = statement_of sql (understood (house_by b) sql) in
+      let task : SqlTable → Task = λ t. record { limit = old.step_limit; keys = (mode_of old).keys; schema = house_by b; table = t; params = params } in
       let on = subst (λ s. Does old.step_limit (mode_of old) params (record old.now { schema = s }) text None command (Ok (w.tally, new.now))) schema w.changed in
       let whole = subst (λ o. AtPlace (λ t. OnRows (task t) (mode_of old) None command db) o (Ok (w.tally, new.now))) found on in
       let done = went whole in
@@ -351,12 +351,12 @@ module _ (sql : List ℕ) (at : ℕ) (layout : Layout) (terms : List Term) (n : 
       let written = went given.2 in
       let trees : done.0.trees ≡ written.0 = ap (λ (it : Written). it.trees) (same_value written.2) in
       let edit = edit_of db (table_of layout) (ids_of given.0) Given 1 given.0 in
-      let applied = one_step house_schema Enforced db written.0 edit (no_works layout.tree (taken_by db edit) edit.news) written.1 in
+      let applied = one_step (house_by b) Enforced db written.0 edit (no_works b layout.tree (taken_by db edit) edit.news) written.1 in
       let answer = subst (λ (l : List Row). IsListOf l (equals 0 ∷ []) (col 1 0 ∷ terms) [] params given.0) (alone db) (listed layout.tree (equals 0 ∷ []) (col 1 0 ∷ terms) [] (overlay db []) params given.0 (given.1.answer Null)) in
       let is_set = table_set layout n low set same_id P casts db shaped all terms more given.0 sets answer in
       let end : new.now.trees ≡ written.0 = ap (λ (d : Database). d.trees) now ∙ trees in (
         record {
-          schema = ap (λ (d : Database). d.schema) now;
+          schema = ap (λ (d : Database). d.schema) now ∙ sym schema;
           rows_are = ap (λ (t : Trees). t layout.tree) end ∙ applied.rows ∙ is_set.0;
           others = subst (λ (t : Trees). AllByRecursion (λ s. (s.tree ≡ layout.tree → ⊥) → t s.tree ≡ db s.tree) house_schema.tables) (sym end) applied.tables;
           sound = w.sound;

@@ -31,7 +31,7 @@ use Rattle.sqlite.specs.Effect.{Database}
 use Rattle.sqlite.specs.State.{State, mode_of, Executes}
 use Rattle.sqlite.proofs.Callers.{IsPlain, command_of, statement_of, runs_as, one_step}
 use Rattle.store_rows.specs.Plain.{plain_query, passes, shown_by}
-use Rattle.store_rows.specs.Schema.{Layout, table_of, house_schema}
+use Rattle.store_rows.specs.Schema.{house_by, house_schema, Layout, table_of}
 use Rattle.store_rows.proofs.RowLemmas.{row_key, keyed}
 use Rattle.store_rows.proofs.Select.{IsListOf, outputs, listed}
 use Rattle.store_rows.proofs.Update.{replaced, only_one, none_there, map_on, numbered_passes, none_set, few, length_mapped}
@@ -130,14 +130,14 @@ module _ (layout : Layout) (p : Row → Bool) (set : Row → Row) (same_id : (r 
       )
   set_in (r ∷ s ∷ found) only short = absurd (omega arith)
 
-module _ (sql : List ℕ) (at : ℕ) (layout : Layout) (test terms : List Term) (params : Row)
+module _ (b : Bool) (sql : List ℕ) (at : ℕ) (layout : Layout) (test terms : List Term) (params : Row)
     (found : slice_get house_schema.tables at ≡ Some (table_of layout)) (alone : (db : Trees) → overlay db [] layout.tree ≡ db layout.tree)
-    (is : command_of (understood house_schema sql) ≡ Update at (record { lets = []; body = plain_query layout.tree test (col 1 0 ∷ terms) [] }))
-    (plain : IsPlain (understood house_schema sql))
+    (is : command_of (understood (house_by b) sql) ≡ Update at (record { lets = []; body = plain_query layout.tree test (col 1 0 ∷ terms) [] }))
+    (plain : IsPlain (understood (house_by b) sql))
     (set : Row → Row) (sets : (r : Row) → shown_by terms params r ≡ set r) (same_id : (r : Row) → rowid (set r) ≡ rowid r) (P : Row → Type 0)
     (casts : (r : Row) → P r → IsTrue (is_int (rowid r)) → cast_row (table_of layout) (set r) ≡ set r) where
   -- The row that passes WHERE is set, and the others stay.
-  pub updates_one : (old new : State) (count : ℕ) → old.now.schema ≡ house_schema → IsShaped Table (old.now.trees layout.tree) → AllByRecursion P (old.now.trees layout.tree)
+  pub updates_one : (old new : State) (count : ℕ) → old.now.schema ≡ house_by b → IsShaped Table (old.now.trees layout.tree) → AllByRecursion P (old.now.trees layout.tree)
       → length (filter (passes test params) (old.now.trees layout.tree)) ≤ 1 → Executes sql params old new (Ok count)
       → Wrote layout.tree (map (λ s. cond (passes test params s) (set s) s) (old.now.trees layout.tree)) old.now new.now
       × IsShaped Table (map (λ s. cond (passes test params s) (set s) s) (old.now.trees layout.tree))
@@ -146,9 +146,9 @@ module _ (sql : List ℕ) (at : ℕ) (layout : Layout) (test terms : List Term) 
       let p = passes test params in
       let rows = db layout.tree in
       let command = Update at (record { lets = []; body = plain_query layout.tree test (col 1 0 ∷ terms) [] }) in
-      let w = runs_as sql params old new house_schema schema command is plain count h in
-      let text = statement_of sql (understood house_schema sql) in
-      let task : SqlTable → Task = λ t. record { limit = old.step_limit; keys = (mode_of old).keys; schema = house_schema; table = t; params = params } in
+      let w = runs_as sql params old new (house_by b) schema command is plain count h in
+      let text = statement_of sql (understood (house_by b) sql) in
+      let task : SqlTable → Task = λ t. record { limit = old.step_limit; keys = (mode_of old).keys; schema = house_by b; table = t; params = params } in
       let on = subst (λ s. Does old.step_limit (mode_of old) params (record old.now { schema = s }) text None command (Ok (w.tally, new.now))) schema w.changed in
       let whole = subst (λ o. AtPlace (λ t. OnRows (task t) (mode_of old) None command db) o (Ok (w.tally, new.now))) found on in
       let done = went whole in
@@ -157,7 +157,7 @@ module _ (sql : List ℕ) (at : ℕ) (layout : Layout) (test terms : List Term) 
       let written = went given.2 in
       let trees : done.0.trees ≡ written.0 = ap (λ (it : Written). it.trees) (same_value written.2) in
       let edit = edit_of db (table_of layout) (ids_of given.0) Given 1 given.0 in
-      let applied = one_step house_schema Enforced db written.0 edit (no_works layout.tree (taken_by db edit) edit.news) written.1 in
+      let applied = one_step (house_by b) Enforced db written.0 edit (no_works b layout.tree (taken_by db edit) edit.news) written.1 in
       let a = subst (λ (l : List Row). IsListOf l test (col 1 0 ∷ terms) [] params given.0) (alone db) (listed layout.tree test (col 1 0 ∷ terms) [] (overlay db []) params given.0 (given.1.answer Null)) in
       let short : length (outputs test (col 1 0 ∷ terms) [] params (db layout.tree)) ≤ 1 =
       omega (arith, length_mapped {Y = Output} (λ r. ([], shown_by (col 1 0 ∷ terms) params r)) (filter (passes test params) (db layout.tree)), one) in
@@ -167,7 +167,7 @@ module _ (sql : List ℕ) (at : ℕ) (layout : Layout) (test terms : List Term) 
       (set_in layout (passes test params) set same_id P casts db shaped all (filter (passes test params) (db layout.tree)) refl one) in
       let end : new.now.trees ≡ written.0 = ap (λ (d : Database). d.trees) now ∙ trees in (
         record {
-          schema = ap (λ (d : Database). d.schema) now;
+          schema = ap (λ (d : Database). d.schema) now ∙ sym schema;
           rows_are = ap (λ (t : Trees). t layout.tree) end ∙ applied.rows ∙ is_set.0;
           others = subst (λ (t : Trees). AllByRecursion (λ s. (s.tree ≡ layout.tree → ⊥) → t s.tree ≡ db s.tree) house_schema.tables) (sym end) applied.tables;
           sound = w.sound;

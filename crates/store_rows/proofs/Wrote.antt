@@ -1,5 +1,5 @@
 -- A house of which one table was written.
-use Rattle.std.proofs.Common.{◌≡◌, ◌≢◌, ◌⊎◌, inl, inr, ℕ, Bool, true, false, cond, eqb, List, [], ◌∷◌, ◌++◌, map, length, Ok, Err, Result, refl, sym, ap, subst, arith}
+use Rattle.std.proofs.Common.{◌≡◌, ◌≢◌, ◌⊎◌, inl, inr, ℕ, Bool, true, false, cond, eqb, List, [], ◌∷◌, ◌++◌, map, length, Ok, Err, Result, refl, sym, ap, subst, ◌∙◌, arith}
 use Rattle.std.specs.List.{AllByRecursion}
 use Rattle.sqlite_value.specs.Order.{Row}
 use Rattle.sqlite_trees.specs.Tree.{Trees}
@@ -11,13 +11,13 @@ use Rattle.sqlite_schema.specs.declared.schema.Keys.TheVariants.{Enforced}
 use Rattle.sqlite_schema.specs.declared.schema.Table.{Table as SqlTable}
 use Rattle.sqlite_rules.specs.Action.{works}
 use Rattle.sqlite.specs.Effect.{Database, IsDatabase}
-use Rattle.store_rows.specs.Schema.{house_schema}
+use Rattle.store_rows.specs.Schema.{house_by, house_schema}
 use Rattle.store_rows.specs.House.{IsHouse, KeepsOthers}
 use Rattle.store_rows.proofs.TextLemmas.{same_number}
 
 -- a table has these rows, and every other is as it was
 pub record Wrote (tree : ℕ) (rows : List Row) (old new : Database) : Type 0 where
-  pub schema : new.schema ≡ house_schema
+  pub schema : new.schema ≡ old.schema
   pub rows_are : new.trees tree ≡ rows
   pub others : KeepsOthers tree old new
   pub sound : IsDatabase new
@@ -37,7 +37,8 @@ module _ (tree : ℕ) (old new : Trees) (shaped : IsShaped Table (new tree)) whe
 
 pub still_house : (tree : ℕ) (rows : List Row) (old new : Database) → IsHouse old → Wrote tree rows old new → IsShaped Table rows → IsHouse new
 still_house tree rows old new house w shaped = record {
-  schema = w.schema;
+  is_indexed = house.is_indexed;
+  schema = w.schema ∙ house.schema;
   shaped = each_shaped tree old.trees new.trees (subst (IsShaped Table) (sym w.rows_are) shaped) house_schema.tables house.shaped w.others;
   sound = w.sound;
 }
@@ -47,8 +48,8 @@ same_action true a = refl
 same_action false a = refl
 
 -- no foreign key of the schema acts
-pub no_works : (tree : ℕ) (olds news : List Row) → works house_schema Enforced 0 tree olds news ≡ []
-no_works tree olds news = rw (same_action (eqb (length news) 0) NoAction) refl
+pub no_works : (b : Bool) (tree : ℕ) (olds news : List Row) → works (house_by b) Enforced 0 tree olds news ≡ []
+no_works b tree olds news = rw (same_action (eqb (length news) 0) NoAction) refl
 
 -- a part that gave a value did not stop on the way
 pub went : {B E R : Type 0} {b : B} {Stops : E → Type 0} → ((stop : E) × Stops stop × (Ok b ≡ Err stop)) ⊎ R → R

@@ -1,5 +1,5 @@
 -- What a connection holds, as a house.
-use Rattle.std.specs.Prelude.{◌≡◌, ◌≢◌, ◌⊎◌, ◌<◌, IsTrue, true, ℕ, List, [], ◌∷◌, ◌++◌, ◌==◌, if◌then◌else◌, map, All}
+use Rattle.std.specs.Prelude.{◌≡◌, ◌≢◌, ◌⊎◌, ◌<◌, Bool, IsTrue, true, ℕ, List, [], ◌∷◌, ◌++◌, ◌==◌, if◌then◌else◌, map, All}
 use Rattle.std.specs.List.{AllByRecursion}
 use Rattle.sqlite_trees.specs.declared.store.Shape.TheVariants.{Table}
 use Rattle.sqlite_trees.specs.View.{IsShaped}
@@ -12,13 +12,19 @@ use Rattle.house_rows.specs.declared.talk.Feedback.{Feedback}
 use Rattle.store_rows.specs.declared.house.HouseRow.{HouseRow}
 use Rattle.store_rows.specs.declared.reserve.ReserveRow.{ReserveRow}
 use Rattle.store_rows.specs.Rows.{houses_in, members_in, categories_in, bids_in, watches_in, questions_in, feedback_in, reserves_in}
-use Rattle.store_rows.specs.Schema.{first_schema, house_schema}
+use Rattle.store_rows.specs.Schema.{first_schema, house_by, house_schema}
+use Rattle.sqlite_schema.specs.declared.schema.Schema.{Schema}
 
 -- the twelve tables, whose rows lie in the order of their rowids, and obey the schema
 pub record IsHouse (db : Database) : Type 0 where
-  pub schema : db.schema ≡ house_schema
+  pub is_indexed : Bool
+  pub schema : db.schema ≡ house_by is_indexed
   pub shaped : AllByRecursion (λ t. IsShaped Table (db.trees t.tree)) house_schema.tables
   pub sound : IsDatabase db
+
+-- the schema of a house, with the index of watches by item or without it
+abbrev pub IsHouseSchema : Schema → Type 0
+IsHouseSchema schema = (is_indexed : Bool) × (schema ≡ house_by is_indexed)
 
 -- the nine tables of version 1, the same
 pub record IsFirstHouse (db : Database) : Type 0 where
@@ -26,9 +32,11 @@ pub record IsFirstHouse (db : Database) : Type 0 where
   pub shaped : AllByRecursion (λ t. IsShaped Table (db.trees t.tree)) first_schema.tables
   pub sound : IsDatabase db
 
--- the three tables that version 2 adds to a house of version 1 have no row, and the others have those that they had
+-- the three tables that version 2 adds to a house of version 1 have no row, the others have those that they had, and watches have
+-- an index by item
 pub record AddsTables (old new : Database) : Type 0 where
   pub house : IsHouse new
+  pub indexed : new.schema ≡ house_schema
   pub kept : AllByRecursion (λ t. new.trees t.tree ≡ old.trees t.tree) first_schema.tables
   pub reserves : new.trees 23 ≡ []
   pub editions : new.trees 24 ≡ []
@@ -103,6 +111,7 @@ with_version version h = if h.id == 1 then record h { version = version } else h
 -- the version is set
 pub record SetsVersion (version : ℕ) (old new : Database) : Type 0 where
   pub house : IsHouse new
+  pub schema : new.schema ≡ old.schema
   pub others : KeepsOthers 0 old new
   pub houses : houses_in new.trees ≡ map (with_version version) (houses_in old.trees)
 

@@ -3,6 +3,7 @@ pub mod Begun
 pub mod ItemRows
 pub mod Columns
 pub mod Schema
+pub mod Statements
 pub mod House
 pub mod Sorted
 pub mod Tables

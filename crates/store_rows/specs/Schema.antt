@@ -1,5 +1,5 @@
 -- The twelve tables with their keys and indexes, as the schema of a connection has them.
-use Rattle.std.specs.Prelude.{true, false, [], ◌∷◌, Some, None, codes, List, ℕ, Bool, Option, map, take}
+use Rattle.std.specs.Prelude.{true, false, [], ◌∷◌, Some, None, codes, List, ℕ, Bool, Option, cond, map, take}
 use Rattle.sqlite_value.specs.declared.value.Value.TheVariants.{Null}
 use Rattle.sqlite_value.specs.declared.keys.Collation.TheVariants.{Binary}
 use Rattle.sqlite_value.specs.Keys.{plain}
@@ -232,8 +232,13 @@ question_by_asker = index_on (codes "question_by_asker") 21 12 (2 ∷ 1 ∷ 3 �
 abbrev pub feedback_by_receiver : Index
 feedback_by_receiver = index_on (codes "feedback_by_receiver") 22 14 (3 ∷ 1 ∷ 2 ∷ [])
 
-abbrev pub house_schema : Schema
-house_schema = record {
+-- which houses have had since watches are found by their item, too
+abbrev pub watch_by_item : Index
+watch_by_item = index_on (codes "watch_by_item") 27 10 (2 ∷ 1 ∷ [])
+
+-- the schema of a house that has the index of watches by item, or of an older one that has not
+abbrev pub house_by : Bool → Schema
+house_by is_indexed = record {
   tables = house_table ∷ band_table ∷ member_table ∷ category_table ∷ item_table ∷ bid_table
       ∷ watch_table ∷ question_table ∷ feedback_table ∷ reserve_table ∷ edition_table ∷ later_band_table ∷ [];
   indexes = automatic member_table 0 (2 ∷ []) 3
@@ -250,9 +255,13 @@ house_schema = record {
       ∷ bid_by_member
       ∷ question_by_asker
       ∷ feedback_by_receiver
-      ∷ automatic later_band_table 0 (1 ∷ 2 ∷ []) 26 ∷ [];
+      ∷ automatic later_band_table 0 (1 ∷ 2 ∷ []) 26 ∷ cond is_indexed (watch_by_item ∷ []) [];
   views = [];
 }
+
+-- the schema of a new house
+abbrev pub house_schema : Schema
+house_schema = house_by true
 
 -- what a file of version 1 has: the first nine tables, and their indexes
 abbrev pub first_schema : Schema

@@ -6,7 +6,7 @@ use Rattle.store_rows.specs.declared.tables.TheConstants.{HOUSE, ITEM, ITEM_BY_C
 use Rattle.store_rows.specs.declared.tables.TheConstants.{ITEM_BY_END, ITEM_BY_LEADER}
 use Rattle.store_rows.specs.declared.tables.TheConstants.{ITEM_BY_SELLER, LATER_BAND, MEMBER}
 use Rattle.store_rows.specs.declared.tables.TheConstants.{QUESTION, QUESTION_BY_ASKER, RESERVE}
-use Rattle.store_rows.specs.declared.tables.TheConstants.{WATCH}
+use Rattle.store_rows.specs.declared.tables.TheConstants.{WATCH, WATCH_BY_ITEM}
 
 abbrev pub make_house : List ℕ
 make_house = HOUSE.now
@@ -64,3 +64,6 @@ make_edition = EDITION.now
 
 abbrev pub make_later_band : List ℕ
 make_later_band = LATER_BAND.now
+
+abbrev pub make_watch_by_item : List ℕ
+make_watch_by_item = WATCH_BY_ITEM.now

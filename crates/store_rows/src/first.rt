@@ -8,9 +8,9 @@ ghost use Rattle.sqlite.specs.Listing.{understood};
 ghost use Rattle.sqlite.specs.Values.{bound};
 ghost use Rattle.sqlite.specs.Held.{state};
 ghost use Rattle.store_rows.specs.House.{Serves, IsHouse};
-ghost use Rattle.store_rows.specs.Schema.{house_schema};
-ghost use Rattle.store_rows.specs.First.{IsFinite, ShowsFirst, ShowsSome};
+ghost use Rattle.store_rows.specs.First.{ShowsFirst, ShowsSome};
 ghost use Rattle.store_rows.specs.Frames.{OnlyReads};
+ghost use Rattle.store_rows.specs.Statements.{AlwaysFinite, AlwaysPlain};
 
 use crate::sql::fault_of;
 use house_rows::{KeepFault, MOST_SHOWN};
@@ -59,8 +59,8 @@ pub fn first_rows<S: Alter>(
     most: usize,
 ) -> Result<Vec<Row>, KeepFault>
     requires serves { Serves (state S.Store conn.old) }
-    requires plain { IsPlain (understood house_schema sql.now) }
-    requires finite { IsFinite (understood house_schema sql.now) }
+    requires plain { AlwaysPlain sql.now }
+    requires finite { AlwaysFinite sql.now }
     ensures house { HasCleanDisk (state S.Store conn.new) → IsHouse (state S.Store conn.old).now }
     ensures rows { HasCleanDisk (state S.Store conn.new)
         → IfOk result (λ rows. ShowsFirst most sql.now (bound params.now) (state S.Store conn.old)
@@ -82,8 +82,8 @@ fn no_row<S: Alter>(
     params: &[ValueRef<'_>],
 ) -> Result<(), KeepFault>
     requires serves { Serves (state S.Store conn.old) }
-    requires plain { IsPlain (understood house_schema sql.now) }
-    requires finite { IsFinite (understood house_schema sql.now) }
+    requires plain { AlwaysPlain sql.now }
+    requires finite { AlwaysFinite sql.now }
     ensures none { HasCleanDisk (state S.Store conn.new)
         → OnOk result (Shown sql.now (bound params.now) (state S.Store conn.old)
         (state S.Store conn.new) []) }
@@ -111,10 +111,10 @@ pub fn page_rows<S: Alter>(
     params: &[ValueRef<'_>],
 ) -> Result<Vec<Row>, KeepFault>
     requires serves { Serves (state S.Store conn.old) }
-    requires plain { IsPlain (understood house_schema sql.now) }
-    requires finite { IsFinite (understood house_schema sql.now) }
-    requires strays_plain { IsPlain (understood house_schema strays.now) }
-    requires strays_finite { IsFinite (understood house_schema strays.now) }
+    requires plain { AlwaysPlain sql.now }
+    requires finite { AlwaysFinite sql.now }
+    requires strays_plain { AlwaysPlain strays.now }
+    requires strays_finite { AlwaysFinite strays.now }
     ensures house { HasCleanDisk (state S.Store conn.new) → IsHouse (state S.Store conn.old).now }
     ensures rows { HasCleanDisk (state S.Store conn.new)
         → IfOk result (λ rows. ShowsFirst most_shown sql.now (bound params.now)

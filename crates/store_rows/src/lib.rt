@@ -45,4 +45,4 @@ pub use reserves::Reserves;
 pub use rules::Rules;
 pub use sql::{commit, fault_of, is_still_open, rows_shown, run, stored_moment};
 pub use stored::{Stored, all_of, first_of};
-pub use tables::{FIRST_STEPS, STEPS, add_tables, make_steps, step_text};
+pub use tables::{FIRST_STEPS, OLDER_STEPS, STEPS, add_tables, make_steps, step_text};

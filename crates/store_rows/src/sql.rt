@@ -4,14 +4,12 @@ ghost use Rattle.house_rows.specs.declared.fault.KeepFault.TheVariants.{Damaged,
 ghost use Rattle.sqlite.specs.declared.error.Error.TheVariants.{SqliteFailure};
 ghost use Rattle.sqlite.specs.declared.error.ErrorCode.TheVariants.{OutOfMemory};
 ghost use Rattle.sqlite.specs.State.{HasCleanDisk, Executes, IsUnchanged, Shown, Survives, IsRolledBack, Shows};
-ghost use Rattle.sqlite.specs.Given.{IsPlain};
-ghost use Rattle.sqlite.specs.Listing.{understood};
 ghost use Rattle.sqlite.specs.Values.{bound};
 ghost use Rattle.sqlite.specs.Held.{state};
 ghost use Rattle.store_rows.specs.House.{IsBegun, IsHouse, KeepsCommitted, Serves};
-ghost use Rattle.store_rows.specs.Schema.{house_schema};
 ghost use Rattle.store_rows.specs.Frames.{WritesOnce, OnlyReads};
 ghost use Rattle.house_rows.specs.Fits.{IsMoment};
+ghost use Rattle.store_rows.specs.Statements.{AlwaysPlain};
 
 use house_rows::KeepFault;
 use sqlite::types::ValueRef;
@@ -49,7 +47,7 @@ pub fn rows_shown<S: Alter>(
     params: &[ValueRef<'_>],
 ) -> Result<Vec<Row>, KeepFault>
     requires serves { Serves (state S.Store conn.old) }
-    requires plain { IsPlain (understood house_schema sql.now) }
+    requires plain { AlwaysPlain sql.now }
     ensures house { HasCleanDisk (state S.Store conn.new) → IsHouse (state S.Store conn.old).now }
     ensures rows { HasCleanDisk (state S.Store conn.new)
         → IfOk result (λ rows. Shown sql.now (bound params.now) (state S.Store conn.old)

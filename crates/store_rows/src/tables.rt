@@ -16,8 +16,11 @@ use sqlite::{Alter, Connection, Transaction};
 /// How many statements make the tables of version 1.
 pub const FIRST_STEPS: usize = 16;
 
-/// How many statements make the tables.
-pub const STEPS: usize = 19;
+/// How many statements made the tables and indexes before watches had an index by item.
+pub const OLDER_STEPS: usize = 19;
+
+/// How many statements make the tables and indexes.
+pub const STEPS: usize = 20;
 
 // The schema, a statement a step. Definitions take the texts from here.
 const HOUSE: &str = "CREATE TABLE house (id INTEGER PRIMARY KEY, version INTEGER NOT NULL, \
@@ -81,8 +84,11 @@ const LATER_BAND: &str =
     "CREATE TABLE later_band (edition INTEGER NOT NULL REFERENCES edition (edition), \
     at INTEGER NOT NULL, step INTEGER NOT NULL, PRIMARY KEY (edition, at)) STRICT";
 
-/// The text of a step: the tables in the order of their references, their indexes, and then the tables
-/// that version 2 adds.
+// An update of an item looks for the rows that name it, so it would read all watches without this.
+const WATCH_BY_ITEM: &str = "CREATE INDEX watch_by_item ON watch (item, member)";
+
+/// The text of a step: the tables in the order of their references, their indexes, then the tables
+/// that version 2 adds, and the index of watches by item.
 pub fn step_text(step: usize) -> &'static str
     requires { step < STEPS }
     ensures { result.now ≡ making_at step }
@@ -106,7 +112,8 @@ pub fn step_text(step: usize) -> &'static str
         15 => FEEDBACK_BY_RECEIVER,
         16 => RESERVE,
         17 => EDITION,
-        _ => LATER_BAND,
+        18 => LATER_BAND,
+        _ => WATCH_BY_ITEM,
     }
 }
 
@@ -170,7 +177,7 @@ fn add_step<S: Alter>(conn: &mut Connection<S>, step: usize) -> Result<(), KeepF
     run_begun(conn, step_text(step), &[])
 }
 
-/// Adds the tables of version 2 to those of version 1, within a transaction that was begun. After an
+/// Adds the tables of version 2 and the index of watches by item to those of version 1, within a transaction that was begun. After an
 /// error the connection is to be dropped.
 #[tactic(auto, using(crate::proofs::MakeLemmas::none_grown, crate::proofs::MakeLemmas::all_grown))]
 pub fn add_tables<S: Alter>(conn: &mut Connection<S>) -> Result<(), KeepFault>

@@ -1,5 +1,5 @@
 -- What the answer of a question writes: one question at most has a key.
-use Rattle.std.proofs.Common.{◌≡◌, ◌≤◌, ◌<◌, ◌^◌, ℕ, pos, negsuc, ◌<ℤ◌, true, not, ◌&&◌, codes, List, [], ◌∷◌, map, filter, length, drop, Ok, None, eqb, refl, sym, ap, subst, ◌∙◌, arith, IsTrue, true≢false, IsUtf8}
+use Rattle.std.proofs.Common.{◌≡◌, ◌≤◌, ◌<◌, ◌^◌, ℕ, pos, negsuc, ◌<ℤ◌, true, not, ◌&&◌, codes, List, [], ◌∷◌, map, filter, length, drop, Ok, None, eqb, refl, sym, ap, subst, ◌∙◌, arith, IsTrue, true≢false, IsUtf8, Bool}
 use Rattle.std.specs.List.{AllByRecursion}
 use Rattle.sqlite_value.specs.declared.value.Value.{Value}
 use Rattle.sqlite_value.specs.declared.value.Value.TheVariants.{Null, Int, Real, Text, Blob}
@@ -30,7 +30,7 @@ use Rattle.house_rows.specs.Changed.{with_answer}
 use Rattle.house_rows.specs.Questions.{is_question}
 use Rattle.store_rows.specs.Plain.{plain_query, passes}
 use Rattle.store_rows.specs.Rows.{number_in, question_in}
-use Rattle.store_rows.specs.Schema.{house_schema, question_table, question_layout}
+use Rattle.store_rows.specs.Schema.{house_by, question_layout, question_table}
 use Rattle.store_rows.specs.House.{IsHouse}
 use Rattle.store_talk.specs.Answers.{SetsAnswer}
 use Rattle.store_rows.proofs.RowLemmas.{row_key, keyed, equals_number, report_equal}
@@ -50,9 +50,9 @@ answer_text = codes "UPDATE question SET answer = ?4 WHERE item = ?1 AND asker =
 abbrev answer_set : List Term
 answer_set = col 1 0 ∷ col 1 1 ∷ col 1 2 ∷ col 1 3 ∷ col 1 4 ∷ col 0 3 ∷ []
 
-answer_is : (command_of (understood house_schema answer_text) ≡ Update 7 (record { lets = []; body = plain_query 12 by_question (col 1 0 ∷ answer_set) [] })) × IsPlain (understood house_schema answer_text)
+answer_is : (b : Bool) → (command_of (understood (house_by b) answer_text) ≡ Update 7 (record { lets = []; body = plain_query 12 by_question (col 1 0 ∷ answer_set) [] })) × IsPlain (understood (house_by b) answer_text)
 unfolding understood everything
-answer_is = (refl, (refl, refl))
+answer_is b = (refl, (refl, refl))
 
 -- ---- comparisons
 
@@ -104,7 +104,7 @@ module _ (item asker number : ℕ) (more : Row) (low : item < 2 ^ 32) (small : a
     apart : AllByRecursion (λ s. not (clashes keys.plain key rows s) ≡ true) rows
     apart =
         let sound = subst (λ h. IsSound h db.trees) house.schema house.sound in
-        all_weaker _ (λ s. not (clashes keys.plain key rows s) ≡ true) (λ s h. first_of_both (not (clashes keys.plain key rows s)) true h) rows (sound.obeys.rules Unique).1.1.1.1.1.1.1.0
+        all_weaker _ (λ s. not (clashes keys.plain key rows s) ≡ true) (λ s h. first_of_both (not (clashes keys.plain key rows s)) _ h) rows (sound.obeys.rules Unique).1.1.1.1.1.1.1.0
 
     clash : (r s : Row) → Has rows r → Has rows s → passes by_question params r ≡ true → passes by_question params s ≡ true → row_key r <ℤ row_key s → ⊥
     clash r s has_r has_s p q rises =
@@ -146,7 +146,7 @@ sets_answer old new item asker number text count u house low small less h =
     let rows = old.now.trees 12 in
     let sound = subst (λ s. IsSound s old.now.trees) house.schema house.sound in
     let typed = all_weaker _ IsTyped (λ r. first_of_both (are_typed None 0 question_table.columns (drop 1 r)) (has_computed question_table r)) rows (sound.obeys.rules Datatype).1.1.1.1.1.1.1.0 in
-    let w = updates_one answer_text 7 question_layout by_question answer_set params refl (λ db. refl) answer_is.0 answer_is.1 (answered text) (λ r. refl) (λ r. refl) IsTyped (casts text)
+    let w = updates_one _ answer_text 7 question_layout by_question answer_set params refl (λ db. refl) (answer_is _).0 (answer_is _).1 (answered text) (λ r. refl) (λ r. refl) IsTyped (casts text)
     old new count house.schema house.shaped.1.1.1.1.1.1.1.0 typed (one_question item asker number (Text text ∷ []) low small less old.now house) h in
     record {
       house = still_house 12 _ old.now new.now house w.0 w.1;

@@ -13,7 +13,6 @@ use Rattle.house_rows.specs.Taken.{FitWhere}
 use Rattle.house_rows.specs.Ratings.{feedback_key}
 use Rattle.house_rows.specs.declared.talk.Feedback.{Feedback}
 use Rattle.house_rows.proofs.Put.{by_test}
-use Rattle.store_rows.specs.Schema.{house_schema}
 use Rattle.store_rows.specs.House.{IsHouse}
 use Rattle.store_rows.specs.Plain.{passes, shown_by}
 use Rattle.store_rows.specs.Rows.{number_in, is_rating, feedback_in, feedback_of, one_feedback_in}
@@ -102,7 +101,7 @@ module _ (item giver : ℕ) (low : item < 2 ^ 32) (small : giver < 2 ^ 32) where
 
     answer_is : answer ≡ kept table
     answer_is =
-        let read = reads_as is_given_text params old new house_schema house.schema _ is_given_is.0 is_given_is.2 is_given_is.1 answer h in
+        let read = reads_as is_given_text params old new _ house.schema _ (is_given_is _).0 (is_given_is _).2 (is_given_is _).1 answer h in
         let order = in_order given_by talk_shown params table answer house.shaped.1.1.1.1.1.1.1.1.0.0 (listed 14 given_by talk_shown by_rowid (overlay old.now.trees []) params answer (read.answer Null)) in
         order ∙ ap (map show) (filter_same_on IsTalk (passes given_by params) has_key by_key table (are_feedback old.now house))
 

@@ -20,7 +20,7 @@ use Rattle.sqlite_tied.specs.Compute.{everything}
 use Rattle.house_rows.specs.Fits.{FeedbackFits}
 use Rattle.house_rows.specs.Ratings.{feedback_key}
 use Rattle.house_rows.specs.declared.talk.Feedback.{Feedback}
-use Rattle.store_rows.specs.Schema.{house_schema}
+use Rattle.store_rows.specs.Schema.{house_by}
 use Rattle.store_rows.specs.House.{IsHouse}
 use Rattle.store_rows.specs.Plain.{plain_query, passes}
 use Rattle.store_rows.specs.Rows.{number_in, is_rating, feedback_of, one_feedback_in, feedback_in}
@@ -39,15 +39,15 @@ feedback_names = codes "item" ∷ codes "giver" ∷ codes "receiver" ∷ codes "
 
 -- a query over the feedback
 abbrev pub AsksFeedback : List ℕ → List Term → Type 0
-AsksFeedback sql test = (command_of (understood house_schema sql) ≡ Select (record { lets = []; body = plain_query 14 test talk_shown two_columns }) feedback_names)
-    × (reads_listing house_schema sql ≡ false) × IsPlain (understood house_schema sql)
+AsksFeedback sql test = (b : Bool) → (command_of (understood (house_by b) sql) ≡ Select (record { lets = []; body = plain_query 14 test talk_shown two_columns }) feedback_names)
+    × (reads_listing (house_by b) sql ≡ false) × IsPlain (understood (house_by b) sql)
 
 abbrev pub all_feedback_text : List ℕ
 all_feedback_text = codes "SELECT item, giver, receiver, rating, body FROM feedback ORDER BY item, giver"
 
 pub all_feedback_is : AsksFeedback all_feedback_text []
 unfolding understood everything
-all_feedback_is = (refl, refl, (refl, refl))
+all_feedback_is b = (refl, refl, (refl, refl))
 
 -- ---- the keys
 
@@ -71,7 +71,7 @@ pub unique : (db : Database) → IsHouse db → AllByRecursion (λ s. not (clash
 unique db house =
     let rows = db.trees 14 in
     let sound = subst (λ h. IsSound h db.trees) house.schema house.sound in
-    all_weaker _ (λ s. not (clashes keys.plain (1 ∷ 2 ∷ []) rows s) ≡ true) (λ s h. first_of_both (not (clashes keys.plain (1 ∷ 2 ∷ []) rows s)) true h) rows (sound.obeys.rules Unique).1.1.1.1.1.1.1.1.0
+    all_weaker _ (λ s. not (clashes keys.plain (1 ∷ 2 ∷ []) rows s) ≡ true) (λ s h. first_of_both (not (clashes keys.plain (1 ∷ 2 ∷ []) rows s)) _ h) rows (sound.obeys.rules Unique).1.1.1.1.1.1.1.1.0
 
 -- ---- what is found
 
@@ -80,7 +80,7 @@ module _ (test : List Term) (params : Row) (sql : List ℕ) (is : AsksFeedback s
   table = old.now.trees 14
 
   listing : IsListOf table test talk_shown two_columns params answer
-  listing = listed 14 test talk_shown two_columns (overlay old.now.trees []) params answer ((reads_as sql params old new house_schema house.schema _ is.0 is.2 is.1 answer h).answer Null)
+  listing = listed 14 test talk_shown two_columns (overlay old.now.trees []) params answer ((reads_as sql params old new _ house.schema _ (is _).0 (is _).2 (is _).1 answer h).answer Null)
 
   pub feedback_fit : AllByRecursion FeedbackFits (feedback_in old.now.trees) → AllByRecursion FeedbackFits (map feedback_of answer)
   feedback_fit fits =

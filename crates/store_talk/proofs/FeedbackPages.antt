@@ -40,7 +40,7 @@ use Rattle.house_rows.proofs.Put.{by_test}
 use Rattle.store_rows.specs.House.{IsHouse}
 use Rattle.store_rows.specs.Plain.{plain_query, passes}
 use Rattle.store_rows.specs.Rows.{feedback_in, feedback_of, is_rating, number_in, one_feedback_in}
-use Rattle.store_rows.specs.Schema.{feedback_table, house_schema}
+use Rattle.store_rows.specs.Schema.{feedback_table, house_by}
 use Rattle.store_rows.proofs.ColumnLemmas.{holds_all}
 use Rattle.store_rows.proofs.RowLemmas.{equals_number, int_if, truth_back}
 use Rattle.store_rows.proofs.Select.{IsListOf, equals}
@@ -80,19 +80,19 @@ stray_test = equals 3 ∷ op2 (Compare Lt Binary) (col 1 1) (col 0 1) ∷ is_ast
 
 pub given_is : Asks given_text 14 given_test talk_shown two_columns feedback_names
 unfolding understood everything
-given_is = (refl, refl, (refl, refl))
+given_is b = (refl, refl, (refl, refl))
 
-pub given_finite : IsFinite (understood house_schema given_text)
+pub given_finite : (b : Bool) → IsFinite (understood (house_by b) given_text)
 unfolding understood everything
-given_finite = refl
+given_finite b = refl
 
 pub strays_is : Asks stray_feedback_text 14 stray_test (col 1 1 ∷ []) two_columns (codes "item" ∷ [])
 unfolding understood everything
-strays_is = (refl, refl, (refl, refl))
+strays_is b = (refl, refl, (refl, refl))
 
-pub strays_finite : IsFinite (understood house_schema stray_feedback_text)
+pub strays_finite : (b : Bool) → IsFinite (understood (house_by b) stray_feedback_text)
 unfolding understood everything
-strays_finite = refl
+strays_finite b = refl
 
 -- ---- the columns
 

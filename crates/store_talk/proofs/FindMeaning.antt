@@ -18,4 +18,4 @@ asked_by = equals 2 ∷ op2 (Compare Eq Binary) (col 1 1) (col 0 1) ∷ []
 
 pub ask_count_is : Finds ask_count_text 12 asked_by (col 1 3) (codes "n")
 unfolding understood everything
-ask_count_is = (refl, refl, (refl, refl))
+ask_count_is b = (refl, refl, (refl, refl))

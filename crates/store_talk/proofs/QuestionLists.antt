@@ -21,7 +21,6 @@ use Rattle.house_rows.specs.Fits.{QuestionFits}
 use Rattle.house_rows.specs.declared.talk.Question.{Question}
 use Rattle.list_rows.specs.Blocks.{same_key}
 use Rattle.list_rows.proofs.Order.{first_of_same, second_of_same, third_of_same}
-use Rattle.store_rows.specs.Schema.{house_schema}
 use Rattle.store_rows.specs.House.{IsHouse}
 use Rattle.store_rows.specs.Plain.{passes}
 use Rattle.store_rows.specs.Rows.{number_in, maybe_text_in, question_of, question_in, questions_in}
@@ -67,7 +66,7 @@ pub unique : (db : Database) → IsHouse db → AllByRecursion (λ s. not (clash
 unique db house =
     let rows = db.trees 12 in
     let sound = subst (λ h. IsSound h db.trees) house.schema house.sound in
-    all_weaker _ (λ s. not (clashes keys.plain (1 ∷ 2 ∷ 3 ∷ []) rows s) ≡ true) (λ s h. first_of_both (not (clashes keys.plain (1 ∷ 2 ∷ 3 ∷ []) rows s)) true h) rows (sound.obeys.rules Unique).1.1.1.1.1.1.1.0
+    all_weaker _ (λ s. not (clashes keys.plain (1 ∷ 2 ∷ 3 ∷ []) rows s) ≡ true) (λ s h. first_of_both (not (clashes keys.plain (1 ∷ 2 ∷ 3 ∷ []) rows s)) _ h) rows (sound.obeys.rules Unique).1.1.1.1.1.1.1.0
 
 module _ (test : List Term) (params : Row) where
   rises : RisesBy question_key question_in test question_shown question_order params Fits
@@ -80,7 +79,7 @@ module _ (test : List Term) (params : Row) where
     table = old.now.trees 12
 
     listing : IsListOf table test question_shown question_order params answer
-    listing = listed 12 test question_shown question_order (overlay old.now.trees []) params answer ((reads_as sql params old new house_schema house.schema _ is.0 is.2 is.1 answer h).answer Null)
+    listing = listed 12 test question_shown question_order (overlay old.now.trees []) params answer ((reads_as sql params old new _ house.schema _ (is _).0 (is _).2 (is _).1 answer h).answer Null)
 
     -- where those fit that the query keeps
     pub questions_kept : (keep : Question → Bool) → ((r : Row) → IsTalk r → passes test params r ≡ keep (question_in r)) → FitWhere keep QuestionFits (questions_in old.now.trees) → AllByRecursion QuestionFits (map question_of answer)

@@ -1,5 +1,5 @@
 -- What the lists of questions mean.
-use Rattle.std.proofs.Common.{◌≡◌, refl, List, [], ◌∷◌, ℕ, codes, false}
+use Rattle.std.proofs.Common.{◌≡◌, refl, List, [], ◌∷◌, ℕ, codes, false, Bool}
 use Rattle.sqlite_value.specs.declared.value.Value.TheVariants.{Null}
 use Rattle.sqlite_value.specs.declared.keys.Collation.TheVariants.{Binary}
 use Rattle.sqlite_value.specs.declared.keys.Key.{Key as Sorting}
@@ -10,7 +10,7 @@ use Rattle.sqlite.proofs.Callers.{IsPlain, command_of}
 use Rattle.sqlite_tied.specs.Compute.{everything}
 use Rattle.sqlite_sql.specs.declared.ops.BinaryOp.TheVariants.{Is}
 use Rattle.sqlite_sql.specs.declared.ops.UnaryOp.TheVariants.{Not}
-use Rattle.store_rows.specs.Schema.{house_schema}
+use Rattle.store_rows.specs.Schema.{house_by}
 use Rattle.store_rows.specs.Plain.{plain_query}
 use Rattle.store_rows.proofs.Select.{equals}
 use Rattle.store_talk.proofs.TalkMeaning.{question_shown}
@@ -25,8 +25,8 @@ question_names = codes "item" ∷ codes "asker" ∷ codes "n" ∷ codes "answer"
 
 -- a query over the questions
 abbrev pub AsksQuestions : List ℕ → List Term → Type 0
-AsksQuestions sql test = (command_of (understood house_schema sql) ≡ Select (record { lets = []; body = plain_query 12 test question_shown question_order }) question_names)
-    × (reads_listing house_schema sql ≡ false) × IsPlain (understood house_schema sql)
+AsksQuestions sql test = (b : Bool) → (command_of (understood (house_by b) sql) ≡ Select (record { lets = []; body = plain_query 12 test question_shown question_order }) question_names)
+    × (reads_listing (house_by b) sql ≡ false) × IsPlain (understood (house_by b) sql)
 
 abbrev pub waits : Term
 waits = op2 (Is Binary) (col 1 5) (lit Null)
@@ -42,8 +42,8 @@ waiting_on_text = codes "SELECT item, asker, n, answer, body FROM question WHERE
 
 pub all_published_is : AsksQuestions all_published_text (was_answered ∷ [])
 unfolding understood everything
-all_published_is = (refl, refl, (refl, refl))
+all_published_is b = (refl, refl, (refl, refl))
 
 pub waiting_on_is : AsksQuestions waiting_on_text (equals 1 ∷ waits ∷ [])
 unfolding understood everything
-waiting_on_is = (refl, refl, (refl, refl))
+waiting_on_is b = (refl, refl, (refl, refl))

@@ -8,7 +8,7 @@ use Rattle.sqlite.specs.State.{State, Executes}
 use Rattle.house_rows.specs.declared.rating.Rating.{Rating}
 use Rattle.house_rows.specs.declared.rating.Rating.TheVariants.{Minus, Zero, Plus}
 use Rattle.house_rows.specs.declared.talk.Feedback.{Feedback}
-use Rattle.store_rows.specs.Schema.{question_layout, feedback_layout}
+use Rattle.store_rows.specs.Schema.{feedback_layout, question_layout}
 use Rattle.store_rows.specs.Rows.{question_in, one_feedback_in, stored_rating}
 use Rattle.store_rows.specs.House.{IsHouse, AddsQuestion, AddsFeedback}
 use Rattle.store_rows.proofs.RowLemmas.{small}
@@ -27,7 +27,7 @@ adds_question old new item asker number text count item_low asker_low number_low
     let source : Row = Null ∷ Int (pos item) ∷ Int (pos asker) ∷ Int (pos number) ∷ Text text ∷ Null ∷ [] in
     let shaped = house.shaped.1.1.1.1.1.1.1.0 in
     let w = rw (cast_null, cast_int (pos item), cast_int (pos asker), cast_int (pos number)) at
-    (puts put_question_text 7 question_layout question_terms 6 params source refl put_question_is.0 put_question_is.1 refl old new count house.schema h) in
+    (puts _ put_question_text 7 question_layout question_terms 6 params source refl (put_question_is _).0 (put_question_is _).1 refl old new count house.schema h) in
     let back : question_in given ≡ record { item = item; asker = asker; number = number; text = text; answer = None } = rw (small item item_low, small asker asker_low, small number number_low, text_back text u) refl in
     record {
       house = still_house 12 _ old.now new.now house w (IsShaped-put_row given rows refl shaped);
@@ -54,7 +54,7 @@ adds_feedback old new f count item_low from_low to_low u house h =
     let given : Row = row_for (next_rowid rows) f in
     let shaped = house.shaped.1.1.1.1.1.1.1.1.0 in
     let w = rw (cast_null, cast_int (pos f.item), cast_int (pos f.from), cast_int (pos f.to), cast_int (stored_rating f.rating)) at
-    (puts put_feedback_text 8 feedback_layout feedback_terms 6 params (Null ∷ params) refl put_feedback_is.0 put_feedback_is.1 refl old new count house.schema h) in
+    (puts _ put_feedback_text 8 feedback_layout feedback_terms 6 params (Null ∷ params) refl (put_feedback_is _).0 (put_feedback_is _).1 refl old new count house.schema h) in
     record {
       house = still_house 14 _ old.now new.now house w (IsShaped-put_row given rows refl shaped);
       others = w.others;

@@ -1,5 +1,5 @@
 -- What the statements on questions and feedback mean.
-use Rattle.std.proofs.Common.{◌≡◌, refl, List, [], ◌∷◌, ℕ, codes, false}
+use Rattle.std.proofs.Common.{◌≡◌, refl, List, [], ◌∷◌, ℕ, codes, false, Bool}
 use Rattle.sqlite_value.specs.declared.value.Value.TheVariants.{Null}
 use Rattle.sqlite.specs.Term.{Term, lit, col, op2}
 use Rattle.sqlite.specs.Source.TheVariants.{Values}
@@ -10,7 +10,7 @@ use Rattle.sqlite_tied.specs.Compute.{everything}
 use Rattle.sqlite_value.specs.declared.keys.Collation.TheVariants.{Binary}
 use Rattle.sqlite_sql.specs.declared.ops.BinaryOp.TheVariants.{Compare}
 use Rattle.sqlite_sql.specs.declared.ops.CompareOp.TheVariants.{Eq}
-use Rattle.store_rows.specs.Schema.{house_schema}
+use Rattle.store_rows.specs.Schema.{house_by}
 use Rattle.store_rows.specs.Plain.{plain_query}
 use Rattle.store_rows.proofs.Select.{by_rowid, equals}
 
@@ -26,13 +26,13 @@ question_terms = lit Null ∷ col 0 0 ∷ col 0 1 ∷ col 0 2 ∷ col 0 3 ∷ li
 abbrev pub feedback_terms : List Term
 feedback_terms = lit Null ∷ col 0 0 ∷ col 0 1 ∷ col 0 2 ∷ col 0 3 ∷ col 0 4 ∷ []
 
-pub put_question_is : (command_of (understood house_schema put_question_text) ≡ Insert 7 (Values question_terms 6)) × IsPlain (understood house_schema put_question_text)
+pub put_question_is : (b : Bool) → (command_of (understood (house_by b) put_question_text) ≡ Insert 7 (Values question_terms 6)) × IsPlain (understood (house_by b) put_question_text)
 unfolding understood everything
-put_question_is = (refl, (refl, refl))
+put_question_is b = (refl, (refl, refl))
 
-pub put_feedback_is : (command_of (understood house_schema put_feedback_text) ≡ Insert 8 (Values feedback_terms 6)) × IsPlain (understood house_schema put_feedback_text)
+pub put_feedback_is : (b : Bool) → (command_of (understood (house_by b) put_feedback_text) ≡ Insert 8 (Values feedback_terms 6)) × IsPlain (understood (house_by b) put_feedback_text)
 unfolding understood everything
-put_feedback_is = (refl, (refl, refl))
+put_feedback_is b = (refl, (refl, refl))
 
 -- ---- reads
 
@@ -65,17 +65,17 @@ feedback_names = codes "item" ∷ codes "giver" ∷ codes "receiver" ∷ codes "
 abbrev question_names : List (List ℕ)
 question_names = codes "item" ∷ codes "asker" ∷ codes "n" ∷ codes "answer" ∷ codes "body" ∷ []
 
-pub feedback_to_is : (command_of (understood house_schema feedback_to_text) ≡ Select (record { lets = []; body = plain_query 14 (equals 3 ∷ []) talk_shown by_rowid }) feedback_names)
-    × (reads_listing house_schema feedback_to_text ≡ false) × IsPlain (understood house_schema feedback_to_text)
+pub feedback_to_is : (b : Bool) → (command_of (understood (house_by b) feedback_to_text) ≡ Select (record { lets = []; body = plain_query 14 (equals 3 ∷ []) talk_shown by_rowid }) feedback_names)
+    × (reads_listing (house_by b) feedback_to_text ≡ false) × IsPlain (understood (house_by b) feedback_to_text)
 unfolding understood everything
-feedback_to_is = (refl, refl, (refl, refl))
+feedback_to_is b = (refl, refl, (refl, refl))
 
-pub is_given_is : (command_of (understood house_schema is_given_text) ≡ Select (record { lets = []; body = plain_query 14 given_by talk_shown by_rowid }) feedback_names)
-    × (reads_listing house_schema is_given_text ≡ false) × IsPlain (understood house_schema is_given_text)
+pub is_given_is : (b : Bool) → (command_of (understood (house_by b) is_given_text) ≡ Select (record { lets = []; body = plain_query 14 given_by talk_shown by_rowid }) feedback_names)
+    × (reads_listing (house_by b) is_given_text ≡ false) × IsPlain (understood (house_by b) is_given_text)
 unfolding understood everything
-is_given_is = (refl, refl, (refl, refl))
+is_given_is b = (refl, refl, (refl, refl))
 
-pub question_at_is : (command_of (understood house_schema question_at_text) ≡ Select (record { lets = []; body = plain_query 12 by_question question_shown by_rowid }) question_names)
-    × (reads_listing house_schema question_at_text ≡ false) × IsPlain (understood house_schema question_at_text)
+pub question_at_is : (b : Bool) → (command_of (understood (house_by b) question_at_text) ≡ Select (record { lets = []; body = plain_query 12 by_question question_shown by_rowid }) question_names)
+    × (reads_listing (house_by b) question_at_text ≡ false) × IsPlain (understood (house_by b) question_at_text)
 unfolding understood everything
-question_at_is = (refl, refl, (refl, refl))
+question_at_is b = (refl, refl, (refl, refl))

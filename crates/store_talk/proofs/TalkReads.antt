@@ -14,7 +14,7 @@ use Rattle.sqlite.specs.Effect.{Database}
 use Rattle.sqlite.specs.State.{State, Shown}
 use Rattle.sqlite.proofs.Callers.{reads_as}
 use Rattle.house_rows.specs.Questions.{is_question}
-use Rattle.store_rows.specs.Schema.{house_schema, question_table, feedback_table}
+use Rattle.store_rows.specs.Schema.{feedback_table, question_table}
 use Rattle.store_rows.specs.Rows.{number_in, question_of, question_in, questions_in, feedback_of, one_feedback_in, feedback_in}
 use Rattle.store_rows.specs.House.{IsHouse}
 use Rattle.store_rows.proofs.RowLemmas.{int_if, equals_number, first_is, alone, two}
@@ -67,7 +67,7 @@ module _ (old new : State) (answer : List Row) (house : IsHouse old.now) where
   pub feedback_to_answer : (member : ℕ) → member < 2 ^ 32 → Shown feedback_to_text (Int (pos member) ∷ []) old new answer → map feedback_of answer ≡ filter (λ f. f.to == member) (feedback_in old.now.trees)
   feedback_to_answer member low h =
       let params = Int (pos member) ∷ [] in
-      let read = reads_as feedback_to_text params old new house_schema house.schema _ feedback_to_is.0 feedback_to_is.2 feedback_to_is.1 answer h in
+      let read = reads_as feedback_to_text params old new _ house.schema _ (feedback_to_is _).0 (feedback_to_is _).2 (feedback_to_is _).1 answer h in
       let order = in_order (equals 3 ∷ []) talk_shown params given answer house.shaped.1.1.1.1.1.1.1.1.0.0 (listed 14 (equals 3 ∷ []) talk_shown by_rowid (overlay old.now.trees []) params answer (read.answer Null)) in
       typed_where feedback_of one_feedback_in (λ f. f.to == member) IsTalk (equals 3 ∷ []) talk_shown params given answer (λ r. refl)
       (λ r is. rw (equals_number (column r 3) member is.third low) (alone _)) (are_feedback old.now house) order
@@ -76,7 +76,7 @@ module _ (old new : State) (answer : List Row) (house : IsHouse old.now) where
       → option_map question_of (slice_get answer 0) ≡ find (is_question item asker number) (questions_in old.now.trees)
   first_question item asker number low small less h =
       let params = Int (pos item) ∷ Int (pos asker) ∷ Int (pos number) ∷ [] in
-      let read = reads_as question_at_text params old new house_schema house.schema _ question_at_is.0 question_at_is.2 question_at_is.1 answer h in
+      let read = reads_as question_at_text params old new _ house.schema _ (question_at_is _).0 (question_at_is _).2 (question_at_is _).1 answer h in
       let order = in_order by_question question_shown params asked answer house.shaped.1.1.1.1.1.1.1.0.0 (listed 12 by_question question_shown by_rowid (overlay old.now.trees []) params answer (read.answer Null)) in
       first_is question_of (is_question item asker number) answer (questions_in old.now.trees)
       (typed_where question_of question_in (is_question item asker number) IsTalk by_question question_shown params asked answer (λ r. refl)

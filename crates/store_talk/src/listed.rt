@@ -3,15 +3,13 @@ ghost use Rattle.std.specs.Prelude.{◌<◌, [], length, IfOk, OnOk, IsErrOf};
 ghost use Rattle.house_rows.specs.Limits.{most_shown};
 ghost use Rattle.house_rows.specs.declared.fault.KeepFault.TheVariants.{Damaged};
 ghost use Rattle.sqlite.specs.State.{HasCleanDisk, Shown};
-ghost use Rattle.sqlite.specs.Given.{IsPlain};
-ghost use Rattle.sqlite.specs.Listing.{understood};
 ghost use Rattle.sqlite.specs.Values.{bound};
 ghost use Rattle.sqlite.specs.Held.{state};
 ghost use Rattle.store_rows.specs.House.{Serves, IsHouse};
-ghost use Rattle.store_rows.specs.Schema.{house_schema};
-ghost use Rattle.store_rows.specs.First.{IsFinite, ShowsFirst, ShowsSome};
+ghost use Rattle.store_rows.specs.First.{ShowsFirst, ShowsSome};
 ghost use Rattle.store_rows.specs.Frames.{OnlyReads};
 ghost use Rattle.store_talk.specs.Spoiled.{HasStray};
+ghost use Rattle.store_rows.specs.Statements.{AlwaysFinite, AlwaysPlain};
 
 use house_rows::{KeepFault, MOST_SHOWN};
 use sqlite::types::ValueRef;
@@ -27,8 +25,8 @@ fn no_row<S: Alter>(
     of: &[ValueRef<'_>],
 ) -> Result<(), KeepFault>
     requires serves { Serves (state S.Store conn.old) }
-    requires plain { IsPlain (understood house_schema strays.now) }
-    requires finite { IsFinite (understood house_schema strays.now) }
+    requires plain { AlwaysPlain strays.now }
+    requires finite { AlwaysFinite strays.now }
     ensures none { HasCleanDisk (state S.Store conn.new)
         → OnOk result (Shown strays.now (bound of.now) (state S.Store conn.old)
         (state S.Store conn.new) []) }
@@ -57,10 +55,10 @@ pub(crate) fn listed_rows<S: Alter>(
     of: &[ValueRef<'_>],
 ) -> Result<Vec<Row>, KeepFault>
     requires serves { Serves (state S.Store conn.old) }
-    requires plain { IsPlain (understood house_schema sql.now) }
-    requires finite { IsFinite (understood house_schema sql.now) }
-    requires strays_plain { IsPlain (understood house_schema strays.now) }
-    requires strays_finite { IsFinite (understood house_schema strays.now) }
+    requires plain { AlwaysPlain sql.now }
+    requires finite { AlwaysFinite sql.now }
+    requires strays_plain { AlwaysPlain strays.now }
+    requires strays_finite { AlwaysFinite strays.now }
     ensures house { HasCleanDisk (state S.Store conn.new) → IsHouse (state S.Store conn.old).now }
     ensures rows { HasCleanDisk (state S.Store conn.new)
         → IfOk result (λ rows. ShowsFirst most_shown sql.now (bound params.now)

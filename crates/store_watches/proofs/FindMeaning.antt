@@ -10,4 +10,4 @@ is_watched_text = codes "SELECT item FROM watch WHERE member = ?1 AND item = ?2"
 
 pub is_watched_is : Finds is_watched_text 10 of_pair (col 1 2) (codes "item")
 unfolding understood everything
-is_watched_is = (refl, refl, (refl, refl))
+is_watched_is b = (refl, refl, (refl, refl))

@@ -8,7 +8,6 @@ use Rattle.sqlite_sql.specs.Program.{overlay}
 use Rattle.sqlite.specs.State.{State, Shown}
 use Rattle.sqlite.proofs.Callers.{reads_as}
 use Rattle.house_rows.specs.Watches.{is_watch, watch_key}
-use Rattle.store_rows.specs.Schema.{house_schema}
 use Rattle.store_rows.specs.House.{IsHouse}
 use Rattle.store_rows.specs.Rows.{number_in, watch_in}
 use Rattle.store_watches.proofs.WatchLemmas.{IsWatch, are_watches}
@@ -24,7 +23,7 @@ pub watch_found : (member item : ℕ) → member < 2 ^ 32 → item < 2 ^ 32 → 
 watch_found member item low small old new answer house h =
     let params : Row = Int (pos member) ∷ Int (pos item) ∷ [] in
     let table = old.now.trees 10 in
-    let read = reads_as is_watched_text params old new house_schema house.schema _ is_watched_is.0 is_watched_is.2 is_watched_is.1 answer h in
+    let read = reads_as is_watched_text params old new _ house.schema _ (is_watched_is _).0 (is_watched_is _).2 (is_watched_is _).1 answer h in
     let listing = listed 10 of_pair (col 1 2 ∷ []) [] (overlay old.now.trees []) params answer (read.answer Null) in
     let many = rows_counted of_pair (col 1 2 ∷ []) [] params table answer listing watch_key watch_in (is_watch member item) IsWatch
     (λ r is. rw (equals_number (column r 1) member is.0 low, equals_number (column r 2) item is.1 small) (ap (λ b. eqb (number_in (column r 1)) member && b) (alone _))) (are_watches old.now house) in

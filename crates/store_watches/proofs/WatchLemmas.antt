@@ -14,7 +14,7 @@ use Rattle.sqlite.specs.Edit.{next_rowid}
 use Rattle.sqlite.specs.Effect.{Database}
 use Rattle.sqlite.specs.State.{State, Executes}
 use Rattle.house_rows.specs.Watches.{WatchRow}
-use Rattle.store_rows.specs.Schema.{watch_table, watch_layout}
+use Rattle.store_rows.specs.Schema.{watch_layout, watch_table}
 use Rattle.store_rows.specs.Rows.{watch_in}
 use Rattle.store_rows.specs.House.{IsHouse, AddsWatch, RemovesWatch}
 use Rattle.store_rows.proofs.RowLemmas.{int_if, equals_number, small, two}
@@ -48,7 +48,7 @@ adds_watch old new row count member_low item_low house h =
     let rows = old.now.trees 10 in
     let given : Row = Int (next_rowid rows) ∷ Int (pos row.member) ∷ Int (pos row.item) ∷ [] in
     let shaped = house.shaped.1.1.1.1.1.1.0 in
-    let w = rw (cast_null, cast_int (pos row.member), cast_int (pos row.item)) at (puts put_watch_text 6 watch_layout watch_terms 3 params (Null ∷ params) refl put_watch_is.0 put_watch_is.1 refl old new count house.schema h) in
+    let w = rw (cast_null, cast_int (pos row.member), cast_int (pos row.item)) at (puts _ put_watch_text 6 watch_layout watch_terms 3 params (Null ∷ params) refl (put_watch_is _).0 (put_watch_is _).1 refl old new count house.schema h) in
     let back : watch_in given ≡ row = rw (small row.member member_low, small row.item item_low) refl in
     record {
       house = still_house 10 _ old.now new.now house w (IsShaped-put_row given rows refl shaped);
@@ -61,7 +61,7 @@ pub removes_watch : (old new : State) (member item : ℕ) (count : ℕ) → IsHo
 removes_watch old new member item count house low small h =
     let params = Int (pos member) ∷ Int (pos item) ∷ [] in
     let rows = old.now.trees 10 in
-    let w = deletes cut_watch_text 6 watch_layout this_watch params refl (λ db. refl) cut_watch_is.0 cut_watch_is.1 old new count house.schema house.shaped.1.1.1.1.1.1.0 h in
+    let w = deletes _ cut_watch_text 6 watch_layout this_watch params refl (λ db. refl) (cut_watch_is _).0 (cut_watch_is _).1 old new count house.schema house.shaped.1.1.1.1.1.1.0 h in
     let same : filter (λ r. not (passes this_watch params r)) rows ≡ filter (λ r. not (is_watch member item (watch_in r))) rows =
     filter_same_on IsWatch (λ r. not (passes this_watch params r)) (λ r. not (is_watch member item (watch_in r))) (λ r is. ap not (rw (equals_number (column r 1) member is.0 low, equals_number (column r 2) item is.1 small) (two _ _))) rows (are_watches old.now house) in
     record {

@@ -1,5 +1,5 @@
 -- What the list of watched items means and finds.
-use Rattle.std.proofs.Common.{◌≡◌, ◌==◌, ◌<◌, ◌^◌, ℕ, pos, true, false, not, List, [], ◌∷◌, map, filter, codes, refl, subst, sym, ◌∙◌, arith}
+use Rattle.std.proofs.Common.{◌≡◌, ◌==◌, ◌<◌, ◌^◌, ℕ, pos, true, false, not, List, [], ◌∷◌, map, filter, codes, refl, subst, sym, ◌∙◌, arith, Bool}
 use Rattle.std.specs.List.{AllByRecursion, AllPairs}
 use Rattle.std.proofs.lemmas.Bool.Decides.{nat_tests}
 use Rattle.sqlite_value.specs.declared.value.Value.TheVariants.{Null, Int}
@@ -22,7 +22,7 @@ use Rattle.house_rows.specs.Fits.{WatchRowFits}
 use Rattle.house_rows.specs.History.{is_less}
 use Rattle.house_rows.specs.Taken.{FitWhere}
 use Rattle.house_rows.specs.Watches.{WatchRow, watch_key}
-use Rattle.store_rows.specs.Schema.{house_schema}
+use Rattle.store_rows.specs.Schema.{house_by}
 use Rattle.store_rows.specs.House.{IsHouse}
 use Rattle.store_rows.specs.Plain.{plain_query, passes}
 use Rattle.store_rows.specs.Rows.{number_in, watch_in, watches_in}
@@ -41,10 +41,10 @@ use Rattle.store_rows.proofs.TextLemmas.{same_number}
 abbrev pub watched_text : List ℕ
 watched_text = codes "SELECT item FROM watch WHERE member = ?1 ORDER BY member, item"
 
-pub watched_is : (command_of (understood house_schema watched_text) ≡ Select (record { lets = []; body = plain_query 10 (equals 1 ∷ []) watch_shown two_columns }) (codes "item" ∷ []))
-    × (reads_listing house_schema watched_text ≡ false) × IsPlain (understood house_schema watched_text)
+pub watched_is : (b : Bool) → (command_of (understood (house_by b) watched_text) ≡ Select (record { lets = []; body = plain_query 10 (equals 1 ∷ []) watch_shown two_columns }) (codes "item" ∷ []))
+    × (reads_listing (house_by b) watched_text ≡ false) × IsPlain (understood (house_by b) watched_text)
 unfolding understood everything
-watched_is = (refl, refl, (refl, refl))
+watched_is b = (refl, refl, (refl, refl))
 
 abbrev Pair : Row → Type 0
 Pair r = HasPair (watch_key (watch_in r)) r
@@ -53,7 +53,7 @@ unique : (db : Database) → IsHouse db → AllByRecursion (λ s. not (clashes k
 unique db house =
     let rows = db.trees 10 in
     let sound = subst (λ h. IsSound h db.trees) house.schema house.sound in
-    all_weaker _ (λ s. not (clashes keys.plain (1 ∷ 2 ∷ []) rows s) ≡ true) (λ s h. first_of_both (not (clashes keys.plain (1 ∷ 2 ∷ []) rows s)) true h) rows (sound.obeys.rules Unique).1.1.1.1.1.1.0
+    all_weaker _ (λ s. not (clashes keys.plain (1 ∷ 2 ∷ []) rows s) ≡ true) (λ s h. first_of_both (not (clashes keys.plain (1 ∷ 2 ∷ []) rows s)) _ h) rows (sound.obeys.rules Unique).1.1.1.1.1.1.0
 
 -- the item of a watch, as it is shown
 abbrev pub item_shown : Row → ℕ
@@ -70,7 +70,7 @@ module _ (member : ℕ) (low : member < 2 ^ 32) (old new : State) (answer : List
   params = Int (pos member) ∷ []
 
   listing : IsListOf table test watch_shown two_columns params answer
-  listing = listed 10 test watch_shown two_columns (overlay old.now.trees []) params answer ((reads_as watched_text params old new house_schema house.schema _ watched_is.0 watched_is.2 watched_is.1 answer h).answer Null)
+  listing = listed 10 test watch_shown two_columns (overlay old.now.trees []) params answer ((reads_as watched_text params old new _ house.schema _ (watched_is _).0 (watched_is _).2 (watched_is _).1 answer h).answer Null)
 
   abbrev kept : List Row
   kept = filter (passes test params) table

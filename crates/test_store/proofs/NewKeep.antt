@@ -18,7 +18,7 @@ use Rattle.house_rows.specs.Tables.{tables_of}
 use Rattle.house_rows.specs.declared.settings.Settings.{Settings}
 use Rattle.tree_order.specs.Rows.{in_order, is_before, is_table, renumbered_row}
 use Rattle.store_rows.specs.House.{IsHouse}
-use Rattle.store_rows.specs.Schema.{house_schema}
+use Rattle.store_rows.specs.Schema.{house_by}
 use Rattle.store_rows.specs.Tables.{tables_in}
 use Rattle.store_house.specs.Named.{IsReordered}
 use Rattle.store_making.proofs.MadeHouses.{shown_tables}
@@ -51,8 +51,8 @@ shaped (r ∷ rows) h =
 
 -- ---- a house that was made
 
-apart : ¬ (house_schema ≡ made_schema)
-apart same = let n : 23 ≡ 16 = ap (λ (s : Schema). (get_or s.tables 9 reserve_made).tree) same in absurd (omega (arith, n))
+apart : (b : Bool) → ¬ (house_by b ≡ made_schema)
+apart b same = let n : 23 ≡ 16 = ap (λ (s : Schema). (get_or s.tables 9 reserve_made).tree) same in absurd (omega (arith, n))
 
 -- its list of tables is a table, since another list would be shown as it lies
 module _ (settings : Settings) (made shown : Database) (is : IsMadeHouse settings made) (order : IsReordered made.trees shown.trees) (house : IsHouse shown) where
@@ -64,7 +64,7 @@ module _ (settings : Settings) (made shown : Database) (is : IsMadeHouse setting
   made_lists : Lists (made.trees catalog_tree) made_schema
   made_lists = subst (Lists (made.trees catalog_tree)) is.laid.schema is.laid.sound.lists
 
-  house_lists : Lists (shown.trees catalog_tree) house_schema
+  house_lists : Lists (shown.trees catalog_tree) (house_by house.is_indexed)
   house_lists = subst (Lists (shown.trees catalog_tree)) house.schema house.sound.lists
 
   list_shaped : IsShaped shape.Table (made.trees catalog_tree)
@@ -73,7 +73,7 @@ module _ (settings : Settings) (made shown : Database) (is : IsMadeHouse setting
       go : (b : Bool) → is_table (made.trees catalog_tree) ≡ b → IsShaped shape.Table (made.trees catalog_tree)
       go true e = shaped (made.trees catalog_tree) e
       go false e =
-          absurd (apart (lists_once (made.trees catalog_tree) house_schema made_schema (subst (λ (rows : List Row). Lists rows house_schema) (list_shown e) house_lists) made_lists))
+          absurd (apart _ (lists_once (made.trees catalog_tree) (house_by house.is_indexed) made_schema (subst (λ (rows : List Row). Lists rows (house_by house.is_indexed)) (list_shown e) house_lists) made_lists))
 
 -- and the names find the tables of a new house in it
 pub new_tables : (settings : Settings) (made committed shown : Database) → IsMadeHouse settings made → made ≡ committed → IsReordered committed.trees shown.trees → IsHouse shown

@@ -34,13 +34,13 @@ no_item-requires-2-clause-serves g c =
     (serves_still c.args.rules.now.reserves old first c.no_item.ensures.read.crash c.in_ok-no_item.ensures.read.same c.requires))
 
 pub no_item-requires-clause-plain : goal.no_item-requires-clause-plain
-no_item-requires-clause-plain g c = low_items_is.2
+no_item-requires-clause-plain g c = λ b. (low_items_is b).2
 
 pub no_item-requires-clause-finite : goal.no_item-requires-clause-finite
 no_item-requires-clause-finite g c = low_items_finite
 
 pub no_item-requires-2-clause-plain : goal.no_item-requires-2-clause-plain
-no_item-requires-2-clause-plain g c = far_items_is.2
+no_item-requires-2-clause-plain g c = λ b. (far_items_is b).2
 
 pub no_item-requires-2-clause-finite : goal.no_item-requires-2-clause-finite
 no_item-requires-2-clause-finite g c = far_items_finite
@@ -120,7 +120,7 @@ returns-clause-finds g c = record {
       let kept = both_same old first mid once (c.in_ok-found.ensures.finds.read.same late) in
       let found = c.in_ok-found.found.items in
       let are = subst (λ (db : Database). AreOwnBids c.args.rules.now.editions db.trees found (take most_shown (found_from db.trees c.args.member c.args.from))) once.0.now_is (c.in_ok-found.ensures.finds.value late) in
-      let far = shown_before far_items_text [] old mid kept new [] (plain_at far_items_text old far_items_is.2 house) (c.in_ok-no_item-2.ensures.none clean) in
+      let far = shown_before far_items_text [] old mid kept new [] (plain_at far_items_text old (λ b. (far_items_is b).2) house) (c.in_ok-no_item-2.ensures.none clean) in
       record {
         value = own_fewer old.now c.args.member c.args.from house found (all_ours old first new house (c.in_ok-no_item.ensures.none early) far) are.value;
         is_consistent = are.is_consistent;

@@ -5,7 +5,7 @@ use Rattle.store_bids.proofs.BidFinds.{bid_found}
 use Rattle.store_bids.proofs.look_ups.has_bid.Goals as goal
 
 pub rows_shown-requires-clause-plain : goal.rows_shown-requires-clause-plain
-rows_shown-requires-clause-plain g c = has_bid_is.2
+rows_shown-requires-clause-plain g c = λ b. (has_bid_is b).2
 
 pub returns-clause-finds : goal.returns-clause-finds
 returns-clause-finds g c = record {

@@ -11,7 +11,7 @@ use Rattle.store_bids.proofs.ItemsBid.{items_bid_finite, items_bid_is, items_sho
 use Rattle.store_bids.proofs.look_ups.items_bid_on.Goals as goal
 
 pub first_rows-requires-clause-plain : goal.first_rows-requires-clause-plain
-first_rows-requires-clause-plain g c = items_bid_is.2
+first_rows-requires-clause-plain g c = λ b. (items_bid_is b).2
 
 pub first_rows-requires-clause-finite : goal.first_rows-requires-clause-finite
 first_rows-requires-clause-finite g c = items_bid_finite

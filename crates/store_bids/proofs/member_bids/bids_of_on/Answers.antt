@@ -11,7 +11,7 @@ use Rattle.store_bids.proofs.BidLists.{bid_alone, bids_fit, bids_is, bids_shown}
 use Rattle.store_bids.proofs.member_bids.bids_of_on.Goals as goal
 
 pub rows_shown-requires-clause-plain : goal.rows_shown-requires-clause-plain
-rows_shown-requires-clause-plain g c = bids_is.2
+rows_shown-requires-clause-plain g c = λ b. (bids_is b).2
 
 pub returns-clause-finds : goal.returns-clause-finds
 returns-clause-finds g c =

@@ -53,7 +53,7 @@ returns-in-Ok-clause-house g c clean schema =
     let whole : (g.S.Store.view given.inner).is_broken ≡ false = subst (λ s. (g.S.Store.view s).is_broken ≡ false) (sym c.new.ensures.inner) (sym (c.is_broken.ensures at) ∙ c.if-is_broken.false) in
     let opens = c.in-Ok.ensures.opens clean in
     let live = opens.1 opens.0.is_open in
-    house_shown g.S.Store given (state (over_numbers g.S.Store) c.in-Ok.again).now (c.in-Ok.ensures.trees clean) live.0 (g.met.S.Alter.listed given.inner whole) (g.met.S.Store.ordered given.inner whole) schema
+    house_shown g.S.Store given (state (over_numbers g.S.Store) c.in-Ok.again).now (c.in-Ok.ensures.trees clean) live.0 (g.met.S.Alter.listed given.inner whole) (g.met.S.Store.ordered given.inner whole) schema.0 schema.1
 
 pub returns-in-Ok-clause-first : goal.returns-in-Ok-clause-first
 returns-in-Ok-clause-first g c clean schema =

@@ -1,4 +1,4 @@
-use Rattle.std.proofs.Common.{rules, ◌≡◌, Err, ap, arith, ◌∙◌}
+use Rattle.std.proofs.Common.{rules, ◌≡◌, Err, ap, arith, sym, ◌∙◌}
 use Rattle.sqlite.specs.Held.{state}
 use Rattle.sqlite.specs.State.{HasCleanDisk}
 use Rattle.store_house.proofs.NamedLemmas.{gives_back_in_order, held_schema}
@@ -9,6 +9,12 @@ pub returns-in_err-again-clause-damaged : goal.returns-in_err-again-clause-damag
 returns-in_err-again-clause-damaged g c =
     let is : c.from_residual.result ≡ Err c.in_err-again.field-0.0 = search rules in
     rw is (λ damaged clean. (c.in_err-again.ensures.damaged damaged clean, c.in_err-again.ensures.damaged_first damaged clean))
+
+pub returns-in-Ok-clause-house : goal.returns-in-Ok-clause-house
+returns-in-Ok-clause-house g c clean is =
+    let again = c.in_ok-again.ensures in
+    let found = c.in-Ok.ensures.value.1 is in
+    ((again.rests clean).0, again.house clean (found.0, sym c.schema.ensures.value ∙ found.1))
 
 -- an error gives the store back
 
@@ -25,6 +31,6 @@ returns-in-Err-clause-damaged g c is clean =
     let sound = (c.schema.ensures.live (c.in_ok-again.ensures.rests early).0).0 in
     let one = held_schema (state g.S.Store c.args.conn).committed.trees again.now (c.in_ok-again.ensures.arranged early) sound in
     let neither = c.in-Err.ensures.damaged (ap Err is) in (
-      (λ held. neither.1 (c.schema.ensures.value ∙ one held.0 held.1.sound held.2 ∙ held.1.schema)),
+      (λ held. neither.1 (held.1.is_indexed, c.schema.ensures.value ∙ one held.0 held.1.sound held.2 ∙ held.1.schema)),
       (λ held. neither.0 (c.schema.ensures.value ∙ one held.0 held.1.sound held.2 ∙ held.1.schema)),
     )

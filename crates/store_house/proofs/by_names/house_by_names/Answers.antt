@@ -10,6 +10,12 @@ returns-in_err-again-clause-damaged g c =
     let is : c.from_residual.result ≡ Err c.in_err-again.field-0.0 = search rules in
     rw is (λ damaged clean. c.in_err-again.ensures.damaged damaged clean)
 
+pub returns-then-is_house-clause-house : goal.returns-then-is_house-clause-house
+returns-then-is_house-clause-house g c clean =
+    let again = c.in_ok-again.ensures in
+    let found = c.in-Ok.ensures.value.0 c.if-is_house.true in
+    ((again.rests clean).0, again.house clean (found.0, sym c.schema.ensures.value ∙ found.1))
+
 -- an error gives the store back
 
 pub returns-in-Err-clause-left : goal.returns-in-Err-clause-left
@@ -30,5 +36,5 @@ returns-else-is_house-clause-damaged g c is clean held =
     let early : HasCleanDisk again = omega (arith, c.into_store-else-is_house.ensures.quiet.clean, clean) in
     let sound = (c.schema.ensures.live (c.in_ok-again.ensures.rests early).0).0 in
     let one = held_schema (state g.S.Store c.args.conn).committed.trees again.now (c.in_ok-again.ensures.arranged early) sound in
-    let same = c.in-Ok.ensures.value.1 (c.schema.ensures.value ∙ one held.0 held.1.sound held.2 ∙ held.1.schema) in
+    let same = c.in-Ok.ensures.value.1 (held.1.is_indexed, c.schema.ensures.value ∙ one held.0 held.1.sound held.2 ∙ held.1.schema) in
     absurd (true≢false (sym same ∙ c.if-is_house.false))

@@ -11,7 +11,7 @@ use Rattle.store_house.proofs.look_ups.has_category.Goals as goal
 use Rattle.store_house.proofs.look_ups.has_category.Goals.{else-category-ge1-via-then-category-ge1+else-category-le-MOST_CATEGORIES, else-category-ge1-via-else-category-ge1}
 
 pub rows_shown-requires-clause-plain : goal.rows_shown-requires-clause-plain
-rows_shown-requires-clause-plain g c = has_category_is.2
+rows_shown-requires-clause-plain g c = λ b. (has_category_is b).2
 
 pub returns-in_err-rows-clause-finds : goal.returns-in_err-rows-clause-finds
 returns-in_err-rows-clause-finds g c =

@@ -10,7 +10,7 @@ use Rattle.store_house.proofs.look_ups.has_member.Goals as goal
 use Rattle.store_house.proofs.look_ups.has_member.Goals.{else-member-ge1-via-then-member-ge1+else-member-le-MOST_MEMBERS, else-member-ge1-via-else-member-ge1}
 
 pub rows_shown-requires-clause-plain : goal.rows_shown-requires-clause-plain
-rows_shown-requires-clause-plain g c = has_member_is.2
+rows_shown-requires-clause-plain g c = λ b. (has_member_is b).2
 
 pub returns-in_err-rows-clause-finds : goal.returns-in_err-rows-clause-finds
 returns-in_err-rows-clause-finds g c =

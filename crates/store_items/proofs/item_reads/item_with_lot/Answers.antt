@@ -8,7 +8,7 @@ use Rattle.store_items.proofs.ItemLemmas.{first_with_lot}
 use Rattle.store_items.proofs.item_reads.item_with_lot.Goals as goal
 
 pub rows_shown-requires-clause-plain : goal.rows_shown-requires-clause-plain
-rows_shown-requires-clause-plain g c = with_lot_is.2
+rows_shown-requires-clause-plain g c = λ b. (with_lot_is b).2
 
 pub returns : goal.returns
 returns g c =

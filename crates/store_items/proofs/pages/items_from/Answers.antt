@@ -13,13 +13,13 @@ pub page_rows-requires-clause-serves : goal.page_rows-requires-clause-serves
 page_rows-requires-clause-serves g c = serves c.args.rules.now.reserves (state g.S.Store c.args.conn.now) c.requires
 
 pub page_rows-requires-clause-plain : goal.page_rows-requires-clause-plain
-page_rows-requires-clause-plain g c = items_is.2
+page_rows-requires-clause-plain g c = λ b. (items_is b).2
 
 pub page_rows-requires-clause-finite : goal.page_rows-requires-clause-finite
 page_rows-requires-clause-finite g c = items_finite
 
 pub page_rows-requires-clause-strays_plain : goal.page_rows-requires-clause-strays_plain
-page_rows-requires-clause-strays_plain g c = stray_items_is.2
+page_rows-requires-clause-strays_plain g c = λ b. (stray_items_is b).2
 
 pub page_rows-requires-clause-strays_finite : goal.page_rows-requires-clause-strays_finite
 page_rows-requires-clause-strays_finite g c = stray_items_finite

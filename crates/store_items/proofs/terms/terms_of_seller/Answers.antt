@@ -16,7 +16,7 @@ pub rows_shown-requires-clause-serves : goal.rows_shown-requires-clause-serves
 rows_shown-requires-clause-serves g c = serves c.args.rules.now.reserves (state g.S.Store c.args.conn.now) c.requires
 
 pub rows_shown-requires-clause-plain : goal.rows_shown-requires-clause-plain
-rows_shown-requires-clause-plain g c = terms_of_seller_is.2
+rows_shown-requires-clause-plain g c = λ b. (terms_of_seller_is b).2
 
 pub returns-clause-finds : goal.returns-clause-finds
 returns-clause-finds g c =

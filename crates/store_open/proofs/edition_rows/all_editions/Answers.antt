@@ -10,7 +10,7 @@ use Rattle.store_open.proofs.EditionRowLemmas.{editions_answer}
 use Rattle.store_open.proofs.edition_rows.all_editions.Goals as goal
 
 pub rows_shown-requires-clause-plain : goal.rows_shown-requires-clause-plain
-rows_shown-requires-clause-plain g c = all_editions_are.2
+rows_shown-requires-clause-plain g c = λ b. (all_editions_are b).2
 
 pub returns-clause-finds : goal.returns-clause-finds
 returns-clause-finds g c =

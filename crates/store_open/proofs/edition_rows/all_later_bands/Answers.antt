@@ -10,7 +10,7 @@ use Rattle.store_open.proofs.EditionRowLemmas.{bands_answer}
 use Rattle.store_open.proofs.edition_rows.all_later_bands.Goals as goal
 
 pub rows_shown-requires-clause-plain : goal.rows_shown-requires-clause-plain
-rows_shown-requires-clause-plain g c = all_bands_are.2
+rows_shown-requires-clause-plain g c = λ b. (all_bands_are b).2
 
 pub returns-clause-finds : goal.returns-clause-finds
 returns-clause-finds g c =

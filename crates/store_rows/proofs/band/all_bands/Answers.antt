@@ -9,7 +9,7 @@ use Rattle.store_rows.proofs.HouseLemmas.{bands_answer}
 use Rattle.store_rows.proofs.band.all_bands.Goals as goal
 
 pub rows_shown-requires-clause-plain : goal.rows_shown-requires-clause-plain
-rows_shown-requires-clause-plain g c = bands_are.2
+rows_shown-requires-clause-plain g c = λ b. (bands_are b).2
 
 pub returns-clause-bands : goal.returns-clause-bands
 returns-clause-bands g c clean =

@@ -2,7 +2,11 @@ use Rattle.std.proofs.Common.{arith}
 use Rattle.sqlite.specs.Held.{state}
 use Rattle.sqlite.specs.Values.{bound}
 use Rattle.store_rows.proofs.StartLemmas.{shows_first}
+use Rattle.store_rows.proofs.StateLemmas.{plain_at}
 use Rattle.store_rows.proofs.first.first_rows.Goals as goal
+
+pub rows_given-requires : goal.rows_given-requires
+rows_given-requires g c clean = plain_at c.args.sql.now (state g.S.Store c.args.conn.now) c.requires.plain (c.requires.serves clean).1
 
 pub returns-in-Ok-clause-rows : goal.returns-in-Ok-clause-rows
 returns-in-Ok-clause-rows g c clean =

@@ -8,7 +8,7 @@ use Rattle.store_rows.proofs.HouseLemmas.{first_house}
 use Rattle.store_rows.proofs.house.house_row.Goals as goal
 
 pub rows_shown-requires-clause-plain : goal.rows_shown-requires-clause-plain
-rows_shown-requires-clause-plain g c = house_is.2
+rows_shown-requires-clause-plain g c = λ b. (house_is b).2
 
 pub returns-clause-found : goal.returns-clause-found
 returns-clause-found g c clean =

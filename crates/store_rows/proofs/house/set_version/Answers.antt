@@ -6,7 +6,7 @@ use Rattle.store_rows.proofs.HouseLemmas.{sets_version, version_inside, version_
 use Rattle.store_rows.proofs.house.set_version.Goals as goal
 
 pub run_begun-requires-clause-inner : goal.run_begun-requires-clause-inner
-run_begun-requires-clause-inner g c clean = version_stays_inside _ (c.requires.serves clean).1.schema
+run_begun-requires-clause-inner g c clean = version_stays_inside _ _ (c.requires.serves clean).1.schema
 
 pub returns-clause-ok : goal.returns-clause-ok
 returns-clause-ok g c clean =

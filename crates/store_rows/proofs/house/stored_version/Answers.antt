@@ -8,7 +8,7 @@ use Rattle.store_rows.proofs.HouseLemmas.{first_version}
 use Rattle.store_rows.proofs.house.stored_version.Goals as goal
 
 pub rows_shown-requires-clause-plain : goal.rows_shown-requires-clause-plain
-rows_shown-requires-clause-plain g c = version_is.2
+rows_shown-requires-clause-plain g c = λ b. (version_is b).2
 
 pub returns-clause-found : goal.returns-clause-found
 returns-clause-found g c clean =

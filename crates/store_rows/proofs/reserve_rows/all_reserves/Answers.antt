@@ -9,7 +9,7 @@ use Rattle.store_rows.proofs.ReserveLemmas.{reserves_answer}
 use Rattle.store_rows.proofs.reserve_rows.all_reserves.Goals as goal
 
 pub rows_shown-requires-clause-plain : goal.rows_shown-requires-clause-plain
-rows_shown-requires-clause-plain g c = all_reserves_are.2
+rows_shown-requires-clause-plain g c = λ b. (all_reserves_are b).2
 
 pub returns-clause-reserves : goal.returns-clause-reserves
 returns-clause-reserves g c clean =

@@ -5,7 +5,7 @@ use Rattle.store_talk.proofs.QuestionFinds.{questions_counted}
 use Rattle.store_talk.proofs.ask_counts.ask_count.Goals as goal
 
 pub rows_shown-requires-clause-plain : goal.rows_shown-requires-clause-plain
-rows_shown-requires-clause-plain g c = ask_count_is.2
+rows_shown-requires-clause-plain g c = λ b. (ask_count_is b).2
 
 pub returns-clause-finds : goal.returns-clause-finds
 returns-clause-finds g c = record {

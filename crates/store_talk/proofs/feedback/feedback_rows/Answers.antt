@@ -12,7 +12,7 @@ use Rattle.store_talk.proofs.TalkReads.{feedback_to_answer}
 use Rattle.store_talk.proofs.feedback.feedback_rows.Goals as goal
 
 pub rows_shown-requires-clause-plain : goal.rows_shown-requires-clause-plain
-rows_shown-requires-clause-plain g c = feedback_to_is.2
+rows_shown-requires-clause-plain g c = λ b. (feedback_to_is b).2
 
 pub returns-clause-finds : goal.returns-clause-finds
 returns-clause-finds g c =

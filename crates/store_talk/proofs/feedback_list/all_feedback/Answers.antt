@@ -8,7 +8,7 @@ use Rattle.store_talk.proofs.FeedbackLists.{all_feedback_is, all_feedback_text, 
 use Rattle.store_talk.proofs.feedback_list.all_feedback.Goals as goal
 
 pub rows_shown-requires-clause-plain : goal.rows_shown-requires-clause-plain
-rows_shown-requires-clause-plain g c = all_feedback_is.2
+rows_shown-requires-clause-plain g c = λ b. (all_feedback_is b).2
 
 pub returns-clause-finds : goal.returns-clause-finds
 returns-clause-finds g c =

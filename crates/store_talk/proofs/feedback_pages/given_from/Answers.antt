@@ -8,13 +8,13 @@ use Rattle.store_talk.proofs.FeedbackPages.{given_is, given_finite, given_either
 use Rattle.store_talk.proofs.feedback_pages.given_from.Goals as goal
 
 pub listed_rows-requires-clause-plain : goal.listed_rows-requires-clause-plain
-listed_rows-requires-clause-plain g c = given_is.2
+listed_rows-requires-clause-plain g c = λ b. (given_is b).2
 
 pub listed_rows-requires-clause-finite : goal.listed_rows-requires-clause-finite
 listed_rows-requires-clause-finite g c = given_finite
 
 pub listed_rows-requires-clause-strays_plain : goal.listed_rows-requires-clause-strays_plain
-listed_rows-requires-clause-strays_plain g c = strays_is.2
+listed_rows-requires-clause-strays_plain g c = λ b. (strays_is b).2
 
 pub listed_rows-requires-clause-strays_finite : goal.listed_rows-requires-clause-strays_finite
 listed_rows-requires-clause-strays_finite g c = strays_finite

@@ -9,7 +9,7 @@ use Rattle.store_talk.proofs.FeedbackFinds.{feedback_found, given_here, key_foun
 use Rattle.store_talk.proofs.given.is_given.Goals as goal
 
 pub rows_shown-requires-clause-plain : goal.rows_shown-requires-clause-plain
-rows_shown-requires-clause-plain g c = is_given_is.2
+rows_shown-requires-clause-plain g c = λ b. (is_given_is b).2
 
 pub returns : goal.returns
 returns g c =

@@ -10,7 +10,7 @@ use Rattle.store_talk.proofs.QuestionLists.{answered_test, questions_kept, quest
 use Rattle.store_talk.proofs.question_lists.all_published.Goals as goal
 
 pub rows_shown-requires-clause-plain : goal.rows_shown-requires-clause-plain
-rows_shown-requires-clause-plain g c = all_published_is.2
+rows_shown-requires-clause-plain g c = λ b. (all_published_is b).2
 
 pub returns-clause-finds : goal.returns-clause-finds
 returns-clause-finds g c =

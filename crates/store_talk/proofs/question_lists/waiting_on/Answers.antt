@@ -12,7 +12,7 @@ use Rattle.store_talk.proofs.QuestionLists.{waiting_test, questions_kept, questi
 use Rattle.store_talk.proofs.question_lists.waiting_on.Goals as goal
 
 pub rows_shown-requires-clause-plain : goal.rows_shown-requires-clause-plain
-rows_shown-requires-clause-plain g c = waiting_on_is.2
+rows_shown-requires-clause-plain g c = λ b. (waiting_on_is b).2
 
 pub returns-clause-finds : goal.returns-clause-finds
 returns-clause-finds g c =

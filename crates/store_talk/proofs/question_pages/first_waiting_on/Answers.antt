@@ -9,7 +9,7 @@ use Rattle.store_talk.proofs.QuestionPages.{waiting_finite, waiting_kept, waitin
 use Rattle.store_talk.proofs.question_pages.first_waiting_on.Goals as goal
 
 pub first_rows-requires-clause-plain : goal.first_rows-requires-clause-plain
-first_rows-requires-clause-plain g c = waiting_on_is.2
+first_rows-requires-clause-plain g c = λ b. (waiting_on_is b).2
 
 pub first_rows-requires-clause-finite : goal.first_rows-requires-clause-finite
 first_rows-requires-clause-finite g c = waiting_finite

@@ -8,13 +8,13 @@ use Rattle.store_talk.proofs.QuestionPages.{published_is, published_finite, publ
 use Rattle.store_talk.proofs.question_pages.published_from.Goals as goal
 
 pub listed_rows-requires-clause-plain : goal.listed_rows-requires-clause-plain
-listed_rows-requires-clause-plain g c = published_is.2
+listed_rows-requires-clause-plain g c = λ b. (published_is b).2
 
 pub listed_rows-requires-clause-finite : goal.listed_rows-requires-clause-finite
 listed_rows-requires-clause-finite g c = published_finite
 
 pub listed_rows-requires-clause-strays_plain : goal.listed_rows-requires-clause-strays_plain
-listed_rows-requires-clause-strays_plain g c = stray_askers_is.2
+listed_rows-requires-clause-strays_plain g c = λ b. (stray_askers_is b).2
 
 pub listed_rows-requires-clause-strays_finite : goal.listed_rows-requires-clause-strays_finite
 listed_rows-requires-clause-strays_finite g c = stray_askers_finite

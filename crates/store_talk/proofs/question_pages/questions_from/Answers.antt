@@ -8,13 +8,13 @@ use Rattle.store_talk.proofs.QuestionPages.{questions_is, questions_finite, ques
 use Rattle.store_talk.proofs.question_pages.questions_from.Goals as goal
 
 pub listed_rows-requires-clause-plain : goal.listed_rows-requires-clause-plain
-listed_rows-requires-clause-plain g c = questions_is.2
+listed_rows-requires-clause-plain g c = λ b. (questions_is b).2
 
 pub listed_rows-requires-clause-finite : goal.listed_rows-requires-clause-finite
 listed_rows-requires-clause-finite g c = questions_finite
 
 pub listed_rows-requires-clause-strays_plain : goal.listed_rows-requires-clause-strays_plain
-listed_rows-requires-clause-strays_plain g c = stray_asked_is.2
+listed_rows-requires-clause-strays_plain g c = λ b. (stray_asked_is b).2
 
 pub listed_rows-requires-clause-strays_finite : goal.listed_rows-requires-clause-strays_finite
 listed_rows-requires-clause-strays_finite g c = stray_asked_finite

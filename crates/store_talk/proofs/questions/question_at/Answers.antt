@@ -9,7 +9,7 @@ use Rattle.store_talk.proofs.TalkReads.{first_question}
 use Rattle.store_talk.proofs.questions.question_at.Goals as goal
 
 pub rows_shown-requires-clause-plain : goal.rows_shown-requires-clause-plain
-rows_shown-requires-clause-plain g c = question_at_is.2
+rows_shown-requires-clause-plain g c = λ b. (question_at_is b).2
 
 pub returns-clause-finds : goal.returns-clause-finds
 returns-clause-finds g c =

@@ -7,7 +7,7 @@ use Rattle.store_watches.proofs.WatchLists.{item_shown, watched_here, watched_is
 use Rattle.store_watches.proofs.list.watched_by.Goals as goal
 
 pub rows_shown-requires-clause-plain : goal.rows_shown-requires-clause-plain
-rows_shown-requires-clause-plain g c = watched_is.2
+rows_shown-requires-clause-plain g c = λ b. (watched_is b).2
 
 pub returns : goal.returns
 returns g c =

@@ -5,7 +5,7 @@ use Rattle.store_watches.proofs.WatchFinds.{watch_found}
 use Rattle.store_watches.proofs.look_up.is_watched.Goals as goal
 
 pub rows_shown-requires-clause-plain : goal.rows_shown-requires-clause-plain
-rows_shown-requires-clause-plain g c = is_watched_is.2
+rows_shown-requires-clause-plain g c = λ b. (is_watched_is b).2
 
 pub returns-clause-finds : goal.returns-clause-finds
 returns-clause-finds g c = record {
