@@ -8,7 +8,8 @@ version 2 and two of version 1, one of them with a log, which have rows of every
 house of version 2 is then stated and audited as the one before; it answers every page, and each command once more, as the plain
 site does; a copy of file and log that was made while it was served is the house too, and so is one whose server was killed; it
 ends with the rows that the house before has after the same commands, for SQLite too, in the order that it had; and it opens
-again. One of version 1 is damaged for all commands but `upgrade`, which makes it such a house.
+again. So is one that lacks the index of watches by item, as older houses do, and one to which SQLite gave it later. One of version 1
+is damaged for all commands but `upgrade`, which makes it such a house.
 
 A table, a column or an index more or less, or another name or column, is damaged still, of either version and in whatever order,
 and stays as it was, byte for byte. So is a house whose list of tables has a gap, as it has after an index was made again, until
@@ -44,6 +45,9 @@ MEMBERS = ("1", "2", "3", "4")
 # Houses of version 1 that are kept, the second with a log that belongs to it.
 FIRST = ("house", "stopped")
 BY_END = "CREATE INDEX item_by_end ON item (state, ending)"
+# The index that older houses lack, and what makes and drops it.
+NEWER = "watch_by_item"
+BY_ITEM, NOT_BY_ITEM = f"CREATE INDEX IF NOT EXISTS {NEWER} ON watch (item, member)", f"DROP INDEX {NEWER}"
 # What makes another database of a house of version 2.
 NO_HOUSES = [
     ("DROP INDEX item_by_end",),
@@ -60,6 +64,10 @@ NO_HOUSES = [
     ("DROP INDEX item_by_end", "CREATE INDEX item_by_end ON item (state)"),
     ("DROP INDEX item_by_end", "CREATE INDEX item_by_close ON item (state, ending)"),
     ("DROP INDEX item_by_end", "CREATE INDEX item_by_end ON bid (member, item)"),
+    (NOT_BY_ITEM, "CREATE INDEX watch_by_item ON watch (member, item)"),
+    (NOT_BY_ITEM, "CREATE UNIQUE INDEX watch_by_item ON watch (item, member)"),
+    (NOT_BY_ITEM, "CREATE INDEX watch_by_watcher ON watch (item, member)"),
+    (NOT_BY_ITEM, BY_ITEM, "CREATE INDEX watch_by_watcher ON watch (item, member)"),
     ("DROP TABLE band", "CREATE TABLE band (at INTEGER PRIMARY KEY, step INTEGER) STRICT"),
     ("DROP TABLE watch", "CREATE TABLE watch (member INTEGER NOT NULL REFERENCES member (id),"
                          " item INTEGER NOT NULL REFERENCES item (id)) STRICT"),
@@ -121,7 +129,7 @@ def unaccepted():
 
 def no_first_houses():
     """What makes another database of a house of version 1 too."""
-    return [statements for statements in NO_HOUSES if not any(table in " ".join(statements) for table in LATER)]
+    return [statements for statements in NO_HOUSES if not any(name in " ".join(statements) for name in (*LATER, NEWER))]
 
 
 class Orders:
@@ -219,6 +227,18 @@ class Orders:
                 self.taken(path, before, wanted)
         return wanted
 
+    def older(self, house, wanted):
+        """A house of version 2 without the index of watches by item, one to which SQLite gave it, and one written anew without."""
+        before, told = [*commands(), *sealed()], self.told(house.name)
+        older = changed(copied(house, self.folder / "older"), NOT_BY_ITEM)
+        check("older: one index less", names(older), [name for name in names(house) if name != NEWER])
+        newer = changed(copied(older, self.folder / "older, given the index"), BY_ITEM)
+        check("newer: the index is back", names(newer), names(house))
+        for path in (*[self.anew(older, way) for way in self.ways], older, newer):
+            if self.upgraded(path, IS_VERSION_2):
+                check(f"{path.name}: what is told", self.told(path.name), told)
+                self.taken(path, before, wanted)
+
     def first(self, name, wanted):
         """A house of version 1, written anew in each way, and upgraded."""
         house = laid(name, self.folder / f"{name} of version 1")
@@ -266,6 +286,7 @@ def main():
         check("every command once more", unaccepted(), [])
         house = orders.house()
         wanted = orders.second(house)
+        orders.older(house, wanted)
         for name in FIRST:
             orders.first(name, wanted)
         orders.no_houses(house, NO_HOUSES, IS_VERSION_2)
