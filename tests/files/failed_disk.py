@@ -44,7 +44,7 @@ GATEWAY = ROOT / "deploy" / "gateway"
 BANDS = ROOT / "examples" / "bands.csv"
 LINE = b"auction: file: Store\n"
 STORE = (500, {"error": "store"})
-ITEMS, PORT, CONNECTIONS, SMALL, ROOMY, IMAGE = 20, "18080", 1_000_000, "1m", "64m", 64 << 20
+ITEMS, PORT, CONNECTIONS, SMALL, ROOMY, IMAGE = 20, "18080", 1_000_000, "2m", "64m", 64 << 20
 # How long bids are sent once a disk is well again, in seconds.
 AFTER = 1
 WAYS = {"one connection": MOST, "a connection each": 1}
