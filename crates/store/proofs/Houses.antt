@@ -1,14 +1,15 @@
 -- What a crash leaves of a keep is a house.
 use Rattle.std.proofs.Common.{◌≡◌, ◌∙◌, ap, arith, inl, inr, sym}
 use Rattle.std.specs.Prelude.{IsTrue}
-use Rattle.sqlite.specs.Effect.{Database}
+use Rattle.sqlite.specs.Effect.{Database, IsDatabase}
 use Rattle.sqlite.specs.State.{HasCleanDisk, State, Survives}
 use Rattle.sqlite_trees.specs.Tree.{Trees}
 use Rattle.house_rows.specs.declared.change.Change.{Change}
 use Rattle.store_rows.specs.Commits.{LeavesShown, MadeBy}
 use Rattle.store_rows.specs.House.{IsHouse}
 use Rattle.store_rows.specs.Tables.{IsAtRest}
-use Rattle.store.specs.Kept.{LeavesHouses}
+use Rattle.store_house.proofs.OpenLemmas.{one_schema}
+use Rattle.store.specs.Kept.{LeavesHouses, LeavesOneSchema}
 
 -- at rest a crash leaves what was committed
 pub rests_in_houses : (s : State) → ((db : Trees) → IsTrue s.is_open → s.may_leave db → db ≡ s.committed.trees)
@@ -17,9 +18,27 @@ rests_in_houses s settled rests honest db may =
     let rest = rests honest in
     (s.now, rest.house, settled db rest.is_open may ∙ ap (λ (d : Database). d.trees) (sym rest.settled))
 
+-- what a crash may leave are the trees of one database
+module _ (s : State) (db : Database) (sound : IsDatabase db) (at : (found : Trees) → s.may_leave found → found ≡ db.trees) where
+  has_schema : (one : Database) → IsDatabase one → s.may_leave one.trees → one.schema ≡ db.schema
+  has_schema one is may = one_schema one db is (at one.trees may) sound
+
+-- at rest all that it leaves has the schema of the house
+pub rests_in_schema : (s : State) → ((db : Trees) → IsTrue s.is_open → s.may_leave db → db ≡ s.committed.trees)
+    → (HasCleanDisk s → IsAtRest s) → LeavesOneSchema s
+rests_in_schema s settled rests honest one two is also may left =
+    let rest = rests honest in
+    let at : (found : Trees) → s.may_leave found → found ≡ s.now.trees =
+    λ found left. settled found rest.is_open left ∙ ap (λ (d : Database). d.trees) (sym rest.settled) in
+    has_schema s s.now rest.house.sound at one is may ∙ sym (has_schema s s.now rest.house.sound at two also left)
+
 -- after a change that is made it leaves what is shown
 pub shown_houses : (s : State) → (HasCleanDisk s → LeavesShown s) → (HasCleanDisk s → IsHouse s.now) → LeavesHouses s
 shown_houses s only house honest db may = (s.now, house honest, only honest db may)
+
+pub shown_schema : (s : State) → (HasCleanDisk s → LeavesShown s) → (HasCleanDisk s → IsHouse s.now) → LeavesOneSchema s
+shown_schema s only house honest one two is also may left =
+    has_schema s s.now (house honest).sound (only honest) one is may ∙ sym (has_schema s s.now (house honest).sound (only honest) two also left)
 
 -- a call that commits nothing leaves no more
 pub houses_stay : (old new : State) → Survives old new (λ _. ⊥) → LeavesHouses old → LeavesHouses new
@@ -27,8 +46,29 @@ houses_stay old new survives houses honest db may =
     let before : HasCleanDisk old = omega (arith, survives.clean, honest) in
     elim (survives.crash honest db may) [ inl left ↦ houses before db left | inr none ↦ absurd none ]
 
+pub schema_stays : (old new : State) → Survives old new (λ _. ⊥) → LeavesOneSchema old → LeavesOneSchema new
+schema_stays old new survives alike honest one two is also may left =
+    let before : HasCleanDisk old = omega (arith, survives.clean, honest) in
+    let was : (db : Trees) → new.may_leave db → old.may_leave db = λ db m. elim (survives.crash honest db m) [ inl old_one ↦ old_one | inr none ↦ absurd none ] in
+    alike before one two is also (was one.trees may) (was two.trees left)
+
 -- one that fails leaves what it left before, or the change
 pub houses_or_made : (change : Change) (old new : State) → Survives old new (MadeBy change old) → LeavesHouses old → LeavesHouses new
 houses_or_made change old new survives houses honest db may =
     let before : HasCleanDisk old = omega (arith, survives.clean, honest) in
     elim (survives.crash honest db may) [ inl left ↦ houses before db left | inr made ↦ (made.0, made.1.house, made.2) ]
+
+-- and a change of a house at rest leaves its schema
+module _ (change : Change) (old new : State) (survives : Survives old new (MadeBy change old)) (settled : (db : Trees) → IsTrue old.is_open → old.may_leave db → db ≡ old.committed.trees)
+    (rest : IsAtRest old) (honest : HasCleanDisk new) where
+  before_or_made : (one : Database) → IsDatabase one → new.may_leave one.trees → one.schema ≡ old.now.schema
+  before_or_made one is may = elim (survives.crash honest one.trees may) [
+    | inl left ↦ one_schema one old.now is (settled one.trees rest.is_open left ∙ ap (λ (d : Database). d.trees) (sym rest.settled)) rest.house.sound
+    | inr made ↦ one_schema one made.0 is made.2 made.1.house.sound ∙ made.1.schema
+  ]
+
+pub schema_or_made : (change : Change) (old new : State) → Survives old new (MadeBy change old) → ((db : Trees) → IsTrue old.is_open → old.may_leave db → db ≡ old.committed.trees)
+    → (HasCleanDisk old → IsAtRest old) → LeavesOneSchema new
+schema_or_made change old new survives settled rests honest one two is also may left =
+    let rest = rests (omega (arith, survives.clean, honest)) in
+    before_or_made change old new survives settled rest honest one is may ∙ sym (before_or_made change old new survives settled rest honest two also left)

@@ -19,7 +19,7 @@ use Rattle.store_rows.specs.House.{IsHouse}
 use Rattle.store_rows.specs.Rows.{reserves_in}
 use Rattle.store_rows.specs.Tables.{IsAtRest, tables_in}
 use Rattle.store_items.specs.Seen.{IsThere}
-use Rattle.sqlite.specs.Effect.{Database}
+use Rattle.sqlite.specs.Effect.{Database, IsDatabase}
 
 -- the connection, and what is known of its tables without asking it
 pub record House (S : Type 0) : Type 0 where
@@ -89,8 +89,14 @@ abbrev pub LeavesHouses : State → Type 0
 LeavesHouses s = HasCleanDisk s → (db : Trees) → s.may_leave db
     → (house : Database) × IsHouse house × (db ≡ house.trees)
 
+-- and all that it may leave has one schema
+abbrev pub LeavesOneSchema : State → Type 0
+LeavesOneSchema s = HasCleanDisk s → (one two : Database) → IsDatabase one → IsDatabase two
+    → s.may_leave one.trees → s.may_leave two.trees → one.schema ≡ two.schema
+
 -- No transaction is open; and until it failed, a house is committed, as far as the disk was honest, and an item that was seen
--- last is as it was seen. A crash leaves a house whether it failed or not.
+-- last is as it was seen. A crash leaves a house whether it failed or not, and of one schema, which at rest is that of the house
+-- which is committed.
 pub record IsKeptSeen {S : Type 0} (g : Ghosts S) (seen : Option Auction) (k : House S) : Type 0 where
   pub idle : k.conn.in_transaction ≡ false
   pub moment : IsMoment k.clock
@@ -98,6 +104,7 @@ pub record IsKeptSeen {S : Type 0} (g : Ghosts S) (seen : Option Auction) (k : H
   pub known : k.failed ≡ false → HasCleanDisk (state g k.conn) → IsKnown k.editions k.reserves k.counts k.clock seen (state g k.conn).now.trees
   pub seen_fits : IfSome seen (λ a. TermsFit a.terms × StandingFits a.standing)
   pub houses : LeavesHouses (state g k.conn)
+  pub one_schema : LeavesOneSchema (state g k.conn)
 
 -- whatever was seen
 abbrev pub IsKept : {S : Type 0} → Ghosts S → House S → Type 0

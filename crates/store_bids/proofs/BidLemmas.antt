@@ -64,6 +64,7 @@ adds_bid old new row count low house h =
     let back : bid_in given ≡ row = rw (small row.item low.item, small row.bid.no low.number, small row.bid.member low.member, small row.bid.maximum low.maximum) refl in
     record {
       house = still_house 8 _ old.now new.now house w (IsShaped-put_row given rows refl shaped);
+      schema = w.schema;
       others = w.others;
       bids = ap (map bid_in) (w.rows_are ∙ put_last given rows shaped refl) ∙ map_more bid_in rows given ∙ ap (λ b. map bid_in rows ++ b ∷ []) back;
     }

@@ -28,5 +28,5 @@ unfolding changed
 bids moment item placed kept old mid last new numbered led starts adds sets clock =
     let begin = still_of_item item (StartsAt (opening_of kept)) old mid (adds.others.1.1.1.1.0 (λ e. omega (arith, e))) (adds.others.1.1.1.1.1.1.1.1.1.0 (λ e. omega (arith, e))) starts in
     let one = bid_added (record { item = item; bid = placed }) old mid numbered adds in
-    let two = items_then_clock (with_standing item kept) moment mid last new (standing_number item kept) one.numbered (record { house = sets.house; others = sets.others; items = sets.items led begin }) clock in
-    record { house = clock.house; numbered = two.numbered; tables = two.tables ∙ ap (λ (t : Tables). record t { clock = moment; items = map (with_standing item kept) t.items }) one.tables; reserves = same_reserves 0 last new (omega arith) clock.others ∙ same_reserves 6 mid last (omega arith) sets.others ∙ same_reserves 8 old mid (omega arith) adds.others }
+    let two = items_then_clock (with_standing item kept) moment mid last new (standing_number item kept) one.numbered (record { house = sets.house; schema = sets.schema; others = sets.others; items = sets.items led begin }) clock in
+    record { house = clock.house; schema = clock.schema ∙ sets.schema ∙ adds.schema; numbered = two.numbered; tables = two.tables ∙ ap (λ (t : Tables). record t { clock = moment; items = map (with_standing item kept) t.items }) one.tables; reserves = same_reserves 0 last new (omega arith) clock.others ∙ same_reserves 6 mid last (omega arith) sets.others ∙ same_reserves 8 old mid (omega arith) adds.others }

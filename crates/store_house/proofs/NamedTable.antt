@@ -103,6 +103,7 @@ inside t r = t.make (number_in (column r 0)) (text_in (column r 2))
 -- one more row, the last where its number is over every other
 pub record AddsRow {T : Type 0} (t : NamedTable T) (number : ℕ) (name : List ℕ) (old new : Database) : Type 0 where
   pub house : IsHouse new
+  pub schema : new.schema ≡ old.schema
   pub others : KeepsOthers t.tree old new
   pub rows : All (λ x. t.number x < number) (map (inside t) (old.trees t.tree)) → map (inside t) (new.trees t.tree) ≡ map (inside t) (old.trees t.tree) ++ t.make number name ∷ []
 
@@ -129,6 +130,7 @@ module _ {T : Type 0} (t : NamedTable T) (old new : State) where
       let w = rw (cast_int (pos number), cast_null) at (puts _ sql t.place (layout t.title t.tree) put_terms 3 (Int (pos number) ∷ Text name ∷ []) given t.placed (is _).0 (is _).1 refl old new count house.schema h) in
       record {
         house = still_house t.tree _ old.now new.now house w (IsShaped-put_row given rows refl shaped);
+        schema = w.schema;
         others = w.others;
         rows = λ over. ap (map (inside t)) (w.rows_are ∙ put_over (inside t) t.number (λ r. t.numbers (number_in (rowid r)) (text_in (column r 2))) given number rows shaped refl low over) ∙ map_more (inside t) rows given
             ∙ ap (λ m. map (inside t) rows ++ m ∷ []) (ap₂ t.make (small number low) (text_back name u));

@@ -29,6 +29,7 @@ adds_member number name old new was next w =
     let rows = w.members (all_below (λ m. m.member) (members_in old.trees) x next was.members) in
     record {
       house = w.house;
+      schema = w.schema;
       numbered = record {
         house = rw h was.house;
         members = rw rows (still_numbered (λ m. m.member) (members_in old.trees) x next was.members);
@@ -60,6 +61,7 @@ adds_category number name old new was next w =
     let rows = w.categories (all_below (λ k. k.category) (categories_in old.trees) x next was.categories) in
     record {
       house = w.house;
+      schema = w.schema;
       numbered = record {
         house = rw h was.house;
         members = rw m was.members;
@@ -78,7 +80,7 @@ unfolding changed
 registers number moment name old mid new was next one two =
     let put = adds_member number name.now old mid was next one in
     let it = makes_both _ _ old mid new put (sets_clock moment mid new put.numbered two) in
-    record { house = it.house; numbered = it.numbered; tables = it.tables; reserves = same_reserves 0 mid new (omega arith) two.others ∙ same_reserves 2 old mid (omega arith) one.others }
+    record { house = it.house; schema = it.schema; numbered = it.numbered; tables = it.tables; reserves = same_reserves 0 mid new (omega arith) two.others ∙ same_reserves 2 old mid (omega arith) one.others }
 
 pub adds_category_named : (number moment : ℕ) (name : Bor (List ℕ)) (old mid new : Database) → IsNumbered old.trees → number ≡ length (categories_in old.trees) + 1 → AddsCategory number name.now old mid → SetsClock moment mid new
     → Changes (AddCategory moment name) old new
@@ -86,4 +88,4 @@ unfolding changed
 adds_category_named number moment name old mid new was next one two =
     let put = adds_category number name.now old mid was next one in
     let it = makes_both _ _ old mid new put (sets_clock moment mid new put.numbered two) in
-    record { house = it.house; numbered = it.numbered; tables = it.tables; reserves = same_reserves 0 mid new (omega arith) two.others ∙ same_reserves 4 old mid (omega arith) one.others }
+    record { house = it.house; schema = it.schema; numbered = it.numbered; tables = it.tables; reserves = same_reserves 0 mid new (omega arith) two.others ∙ same_reserves 4 old mid (omega arith) one.others }

@@ -185,6 +185,7 @@ adds_item old new number item count low lot_utf8 title_utf8 text_utf8 house h =
     let back : amount_of reserves number ≡ None → make given ≡ new_item number (record item { reserve = None }) = λ none. rw (small number low.number_low, none, small item.seller low.seller_low, small item.category low.category_low, small item.start low.start_low, small item.end low.end_low, maybe_back item.buy_now low.buy_now_low, sym (no_bids [] item.start None), text_back item.lot.now lot_utf8, text_back item.title.now title_utf8, text_back item.text.now text_utf8) refl in
     record {
       house = still_house 6 _ old.now new.now house w (IsShaped-put_row given rows refl shaped);
+      schema = w.schema;
       others = w.others;
       items = λ over free. ap (λ rs. map (item_row_in rs) (new.now.trees 6)) same ∙ ap (map make) (w.rows_are ∙ put_over make (λ (r : ItemRow). r.item.terms.item) (λ r. refl) given number rows shaped refl low.number_low over) ∙ map_more make rows given
           ∙ ap (λ x. map make rows ++ x ∷ []) (back (no_amount reserves number free));
@@ -315,6 +316,7 @@ sets_standing old new item k count house low kept_low h =
     (set_standing_is _).0 (set_standing_is _).1 (stood k) (λ r. refl) (λ r. refl) IsTyped (stood_stays k) old new count house.schema house.shaped.1.1.1.1.0 (are_typed_rows old.now house) h in
     record {
       house = still_house 6 _ old.now new.now house w.0 w.1;
+      schema = w.0.schema;
       others = w.0.others;
       items = λ led start. ap (λ rs. map (item_row_in rs) (new.now.trees 6)) (kept_reserves old.now new.now w.0.others) ∙ ap (map (row_of old)) w.0.rows_are ∙ typed_set_on (row_of old) (with_standing item k) item (stood k) (λ r. is_item item (row_of old r) ≡ true → opening_of (row_of old r).standing ≡ opening_of k) rows house.shaped.1.1.1.1.0.1
           (of_item item (λ row. opening_of row.standing ≡ opening_of k) old.now start) (here led) (λ r e. rw e refl);
@@ -351,6 +353,7 @@ sets_bought old new item buyer at moment count house low buyer_low at_low moment
     (set_bought_is _).0 (set_bought_is _).1 (sold_at_once buyer at moment) (λ r. refl) (λ r. refl) IsTyped (sold_stays buyer at moment) old new count house.schema house.shaped.1.1.1.1.0 (are_typed_rows old.now house) h in
     record {
       house = still_house 6 _ old.now new.now house w.0 w.1;
+      schema = w.0.schema;
       others = w.0.others;
       items = λ fits. ap (λ rs. map (item_row_in rs) (new.now.trees 6)) (kept_reserves old.now new.now w.0.others) ∙ ap (map (row_of old)) w.0.rows_are ∙ typed_set_on (row_of old) (with_purchase item buyer at moment) item (sold_at_once buyer at moment) (λ r. is_item item (row_of old r) ≡ true → IsUnsold (row_of old r)) rows house.shaped.1.1.1.1.0.1
           (of_item item IsUnsold old.now fits) here (λ r e. rw e refl);
@@ -394,6 +397,7 @@ sets_closed old new item is_sold count house low h =
     (set_closed_is _).0 (set_closed_is _).1 (ended (closed_state is_sold)) (λ r. refl) (λ r. refl) IsTyped (ended_stays (closed_state is_sold)) old new count house.schema house.shaped.1.1.1.1.0 (are_typed_rows old.now house) h in
     record {
       house = still_house 6 _ old.now new.now house w.0 w.1;
+      schema = w.0.schema;
       others = w.0.others;
       items = λ fits. ap (λ rs. map (item_row_in rs) (new.now.trees 6)) (kept_reserves old.now new.now w.0.others) ∙ ap (map (row_of old)) w.0.rows_are ∙ typed_set_on (row_of old) (with_end item is_sold) item (ended (closed_state is_sold)) Both rows house.shaped.1.1.1.1.0.1
           (all_both (λ r. is_item item (row_of old r) ≡ true → IsOurs (row_of old r)) IsRow Both (λ r ours is. (ours, is.ending)) rows (of_item item IsOurs old.now fits) (are_rows old.now house)) (here is_sold) (λ r e. rw e refl);
@@ -426,6 +430,7 @@ sets_settled old new item count house low h =
     (set_settled_is _).0 (set_settled_is _).1 settled (λ r. refl) (λ r. refl) IsTyped settled_stays old new count house.schema house.shaped.1.1.1.1.0 (are_typed_rows old.now house) h in
     record {
       house = still_house 6 _ old.now new.now house w.0 w.1;
+      schema = w.0.schema;
       others = w.0.others;
       items = λ fits. ap (λ rs. map (item_row_in rs) (new.now.trees 6)) (kept_reserves old.now new.now w.0.others) ∙ ap (map (row_of old)) w.0.rows_are ∙ typed_set_on (row_of old) (with_settlement item) item settled (λ r. is_item item (row_of old r) ≡ true → IsOurs (row_of old r)) rows house.shaped.1.1.1.1.0.1
           (of_item item IsOurs old.now fits) (λ r fits e. rw (e, fits_state (is_state (column r 10)) (number_in (column r 7)) (fits e)) refl) (λ r e. rw e refl);

@@ -15,12 +15,14 @@ use Rattle.store_rows.specs.Rows.{reserves_in}
 -- every item is made another, and the other tables are as they were
 pub record SetsItems (f : ItemRow → ItemRow) (old new : Database) : Type 0 where
   pub house : IsHouse new
+  pub schema : new.schema ≡ old.schema
   pub others : KeepsOthers 6 old new
   pub items : items_in new.trees ≡ map f (items_in old.trees)
 
 -- one more item without a reserve, the last where its number is over every other, that of each reserve among them
 pub record AddsItem (row : ItemRow) (old new : Database) : Type 0 where
   pub house : IsHouse new
+  pub schema : new.schema ≡ old.schema
   pub others : KeepsOthers 6 old new
   pub items : All (λ r. r.item.terms.item < row.item.terms.item) (items_in old.trees)
       → All (λ r. r.item < row.item.terms.item) (reserves_in old.trees)
@@ -41,6 +43,7 @@ StartsAt opening row = opening_of row.standing ≡ opening
 -- has a top
 pub record SetsStanding (item : ℕ) (kept : Kept) (old new : Database) : Type 0 where
   pub house : IsHouse new
+  pub schema : new.schema ≡ old.schema
   pub others : KeepsOthers 6 old new
   pub items : is_some kept.top ≡ is_some kept.leader → OfItem item (λ row. opening_of row.standing ≡ opening_of kept) old
       → items_in new.trees ≡ map (with_standing item kept) (items_in old.trees)
@@ -48,6 +51,7 @@ pub record SetsStanding (item : ℕ) (kept : Kept) (old new : Database) : Type 0
 -- the item is sold at once, if its row fits and nobody has bid
 pub record SetsBought (item buyer price moment : ℕ) (old new : Database) : Type 0 where
   pub house : IsHouse new
+  pub schema : new.schema ≡ old.schema
   pub others : KeepsOthers 6 old new
   pub items : OfItem item (λ row. (row.item.terms.start ≤ most_cents)
       × (row.standing.price ≡ row.standing.start) × (row.standing.leader ≡ None)
@@ -64,6 +68,7 @@ with_end item is_sold row =
 -- the item is closed at its end, if its row fits
 pub record SetsClosed (item : ℕ) (is_sold : Bool) (old new : Database) : Type 0 where
   pub house : IsHouse new
+  pub schema : new.schema ≡ old.schema
   pub others : KeepsOthers 6 old new
   pub items : OfItem item (λ row. row.item.terms.start ≤ most_cents) old
       → items_in new.trees ≡ map (with_end item is_sold) (items_in old.trees)
@@ -71,6 +76,7 @@ pub record SetsClosed (item : ℕ) (is_sold : Bool) (old new : Database) : Type 
 -- the item is settled, if its row fits
 pub record SetsSettled (item : ℕ) (old new : Database) : Type 0 where
   pub house : IsHouse new
+  pub schema : new.schema ≡ old.schema
   pub others : KeepsOthers 6 old new
   pub items : OfItem item (λ row. row.item.terms.start ≤ most_cents) old
       → items_in new.trees ≡ map (with_settlement item) (items_in old.trees)

@@ -44,6 +44,7 @@ adds_edition old new edition first count low less house h =
     let back : edition_row_in given ≡ record { edition = edition; first = first } = rw (small edition low, small first less) refl in
     record {
       house = still_house 24 _ old.now new.now house w (IsShaped-put_row given rows refl shaped);
+      schema = w.schema;
       others = w.others;
       editions = λ over. ap (map edition_row_in) (w.rows_are ∙ put_over edition_row_in (λ (e : EditionRow). e.edition) (λ r. refl) given edition rows shaped refl low over) ∙ map_more edition_row_in rows given ∙ ap (λ e. map edition_row_in rows ++ e ∷ []) back;
     }
@@ -59,6 +60,7 @@ adds_later_band old new edition from step count low less few house h =
     let back : later_band_in given ≡ later_band edition (from, step) = rw (small edition low, small from less, small step few) refl in
     record {
       house = still_house 25 _ old.now new.now house w (IsShaped-put_row given rows refl shaped);
+      schema = w.schema;
       others = w.others;
       bands = ap (map later_band_in) (w.rows_are ∙ put_last given rows shaped refl) ∙ map_more later_band_in rows given ∙ ap (λ b. map later_band_in rows ++ b ∷ []) back;
     }

@@ -38,12 +38,13 @@ kept_all tree old (t ∷ tables) = ((λ apart. refl), kept_all tree old tables)
 
 -- none are added at first
 pub no_bands : (edition : ℕ) (old : Database) → IsHouse old → AddsLaterBands edition [] old old
-no_bands edition old house = record { house = house; others = kept_all 25 old.trees house_schema.tables; later_bands = sym (append_nil (later_bands_in old.trees)) }
+no_bands edition old house = record { house = house; schema = refl; others = kept_all 25 old.trees house_schema.tables; later_bands = sym (append_nil (later_bands_in old.trees)) }
 
 pub band_more : (edition : ℕ) (bands : List (ℕ × ℕ)) (i from step : ℕ) (old mid new : Database) → i < length bands → (from, step) ≡ get_or bands i (0, 0)
     → AddsLaterBands edition (take i bands) old mid → AddsLaterBand edition from step mid new → AddsLaterBands edition (take (i + 1) bands) old new
 band_more edition bands i from step old mid new low same was added = record {
   house = added.house;
+  schema = added.schema ∙ was.schema;
   others = kept_twice 25 old.trees mid.trees new.trees house_schema.tables was.others added.others;
   later_bands = added.bands ∙ ap₂ (λ l (b : LaterBandRow). l ++ b ∷ []) was.later_bands (ap (later_band edition) same) ∙ joined (later_bands_in old.trees) (map (later_band edition) (take i bands)) (later_band edition (get_or bands i (0, 0)) ∷ [])
       ∙ ap (λ l. later_bands_in old.trees ++ l) (sym (map_taken (later_band edition) bands i (0, 0) low));

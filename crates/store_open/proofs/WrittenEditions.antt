@@ -45,6 +45,7 @@ adds_table edition first bands old mid new was next one two =
     ∙ edition_more edition first bands (later_bands_in old.trees) (edition_rows_in old.trees) lower under in
     record {
       house = two.house;
+      schema = two.schema ∙ one.schema;
       numbered = record {
         house = rw h was.house;
         members = rw m was.members;
@@ -84,6 +85,7 @@ module _ (edition first moment : ℕ) (bands : Bor (List (ℕ × ℕ))) (old mid
       let it = makes_both _ _ old last new put (sets_clock moment last new put.numbered three) in
       record {
         house = it.house;
+        schema = it.schema;
         numbered = it.numbered;
         tables = it.tables ∙ as_changed (next ∙ ap (λ n. n + 2) so_many) (begins ∙ ap (λ n. n + 1) same_items);
         reserves = same_reserves 0 last new (omega arith) three.others

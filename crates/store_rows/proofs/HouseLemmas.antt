@@ -90,6 +90,7 @@ sets_clock old new moment count low house h =
     old new count house.schema house.shaped.0 typed h in
     record {
       house = still_house 0 _ old.now new.now house w.0 w.1;
+      schema = w.0.schema;
       others = w.0.others;
       houses = ap (map house_in) w.0.rows_are ∙ typed_set house_in (with_clock moment) 1 (clocked moment) rows house.shaped.0.1 (λ r e. rw (e, small moment low) refl) (λ r e. rw e refl);
     }

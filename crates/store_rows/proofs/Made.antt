@@ -13,6 +13,7 @@ use Rattle.store_rows.proofs.Clock.{clock_set}
 -- the house that a write leaves, and its tables
 pub record Makes (make : Tables → Tables) (old new : Database) : Type 0 where
   pub house : IsHouse new
+  pub schema : new.schema ≡ old.schema
   pub numbered : IsNumbered new.trees
   pub tables : tables_in new.trees ≡ make (tables_in old.trees)
 
@@ -20,6 +21,7 @@ pub record Makes (make : Tables → Tables) (old new : Database) : Type 0 where
 pub makes_both : (f g : Tables → Tables) (old mid new : Database) → Makes f old mid → Makes g mid new → Makes (λ t. g (f t)) old new
 makes_both f g old mid new one two = record {
   house = two.house;
+  schema = two.schema ∙ one.schema;
   numbered = two.numbered;
   tables = two.tables ∙ ap g one.tables;
 }
@@ -43,7 +45,7 @@ module _ {A : Type 0} (number : A → ℕ) (xs : List A) (x : A) (next : number 
 -- ---- the clock
 
 pub sets_clock : (moment : ℕ) (old new : Database) → IsNumbered old.trees → SetsClock moment old new → Makes (λ t. record t { clock = moment }) old new
-sets_clock moment old new was w = let it = clock_set moment old new was w in record { house = w.house; numbered = it.numbered; tables = it.tables }
+sets_clock moment old new was w = let it = clock_set moment old new was w in record { house = w.house; schema = w.schema; numbered = it.numbered; tables = it.tables }
 
 -- ---- the reserves
 

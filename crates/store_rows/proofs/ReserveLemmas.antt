@@ -36,6 +36,7 @@ adds_reserve old new item amount count low less house h =
     let back : reserve_in given ≡ record { item = item; amount = amount } = rw (small item low, small amount less) refl in
     record {
       house = still_house 23 _ old.now new.now house w (IsShaped-put_row given rows refl shaped);
+      schema = w.schema;
       others = w.others;
       reserves = λ over. ap (map reserve_in) (w.rows_are ∙ put_over reserve_in (λ (r : ReserveRow). r.item) (λ r. refl) given item rows shaped refl low over) ∙ map_more reserve_in rows given ∙ ap (λ r. map reserve_in rows ++ r ∷ []) back;
     }

@@ -71,6 +71,7 @@ KeepsOthers tree old new = AllByRecursion (λ t. t.tree ≢ tree → new.trees t
 -- one more member, the last where its number is over every other
 pub record AddsMember (number : ℕ) (name : List ℕ) (old new : Database) : Type 0 where
   pub house : IsHouse new
+  pub schema : new.schema ≡ old.schema
   pub others : KeepsOthers 2 old new
   pub members : All (λ m. m.member < number) (members_in old.trees)
       → members_in new.trees ≡ members_in old.trees ++ record { member = number; name = name } ∷ []
@@ -78,6 +79,7 @@ pub record AddsMember (number : ℕ) (name : List ℕ) (old new : Database) : Ty
 -- one more category, the last where its number is over every other
 pub record AddsCategory (number : ℕ) (name : List ℕ) (old new : Database) : Type 0 where
   pub house : IsHouse new
+  pub schema : new.schema ≡ old.schema
   pub others : KeepsOthers 4 old new
   pub categories : All (λ k. k.category < number) (categories_in old.trees)
       → categories_in new.trees ≡ categories_in old.trees ++ record { category = number; name = name } ∷ []
@@ -85,12 +87,14 @@ pub record AddsCategory (number : ℕ) (name : List ℕ) (old new : Database) : 
 -- one more bid, the last
 pub record AddsBid (bid : BidRow) (old new : Database) : Type 0 where
   pub house : IsHouse new
+  pub schema : new.schema ≡ old.schema
   pub others : KeepsOthers 8 old new
   pub bids : bids_in new.trees ≡ bids_in old.trees ++ bid ∷ []
 
 -- one more watch, the last
 pub record AddsWatch (watch : WatchRow) (old new : Database) : Type 0 where
   pub house : IsHouse new
+  pub schema : new.schema ≡ old.schema
   pub others : KeepsOthers 10 old new
   pub watches : watches_in new.trees ≡ watches_in old.trees ++ watch ∷ []
 
@@ -101,6 +105,7 @@ with_clock moment h = if h.id == 1 then record h { clock = moment } else h
 -- the clock is set
 pub record SetsClock (moment : ℕ) (old new : Database) : Type 0 where
   pub house : IsHouse new
+  pub schema : new.schema ≡ old.schema
   pub others : KeepsOthers 0 old new
   pub houses : houses_in new.trees ≡ map (with_clock moment) (houses_in old.trees)
 
@@ -118,17 +123,20 @@ pub record SetsVersion (version : ℕ) (old new : Database) : Type 0 where
 -- a member's watch of an item is gone
 pub record RemovesWatch (member item : ℕ) (old new : Database) : Type 0 where
   pub house : IsHouse new
+  pub schema : new.schema ≡ old.schema
   pub others : KeepsOthers 10 old new
   pub watches : watches_in new.trees ≡ unwatched member item (watches_in old.trees)
 
 -- one more question, the last
 pub record AddsQuestion (question : Question) (old new : Database) : Type 0 where
   pub house : IsHouse new
+  pub schema : new.schema ≡ old.schema
   pub others : KeepsOthers 12 old new
   pub questions : questions_in new.trees ≡ questions_in old.trees ++ question ∷ []
 
 -- one more feedback, the last
 pub record AddsFeedback (feedback : Feedback) (old new : Database) : Type 0 where
   pub house : IsHouse new
+  pub schema : new.schema ≡ old.schema
   pub others : KeepsOthers 14 old new
   pub feedback_is : feedback_in new.trees ≡ feedback_in old.trees ++ feedback ∷ []

@@ -30,6 +30,7 @@ pub record IsGap (rows : List ReserveRow) (item i : ℕ) : Type 0 where
 -- one more reserve, the last where its item is over every other
 pub record AddsReserve (item amount : ℕ) (old new : Database) : Type 0 where
   pub house : IsHouse new
+  pub schema : new.schema ≡ old.schema
   pub others : KeepsOthers 23 old new
   pub reserves : All (λ r. r.item < item) (reserves_in old.trees)
       → reserves_in new.trees ≡ reserves_in old.trees ++ record { item = item; amount = amount } ∷ []

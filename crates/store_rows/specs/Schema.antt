@@ -232,7 +232,7 @@ question_by_asker = index_on (codes "question_by_asker") 21 12 (2 ∷ 1 ∷ 3 �
 abbrev pub feedback_by_receiver : Index
 feedback_by_receiver = index_on (codes "feedback_by_receiver") 22 14 (3 ∷ 1 ∷ 2 ∷ [])
 
--- which houses have had since watches are found by their item, too
+-- Watches by their item: an index that older houses lack.
 abbrev pub watch_by_item : Index
 watch_by_item = index_on (codes "watch_by_item") 27 10 (2 ∷ 1 ∷ [])
 

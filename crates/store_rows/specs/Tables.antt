@@ -103,6 +103,7 @@ reserves_after reserves next (SetBands moment bands) = reserves
 -- what a change makes of the house
 pub record Changes (change : Change) (old new : Database) : Type 0 where
   pub house : IsHouse new
+  pub schema : new.schema ≡ old.schema
   pub numbered : IsNumbered new.trees
   pub tables : tables_in new.trees ≡ changed (tables_in old.trees) change
   pub reserves : reserves_in new.trees ≡ reserves_after (reserves_in old.trees) (length (items_in old.trees) + 1) change

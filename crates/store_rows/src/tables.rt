@@ -177,8 +177,8 @@ fn add_step<S: Alter>(conn: &mut Connection<S>, step: usize) -> Result<(), KeepF
     run_begun(conn, step_text(step), &[])
 }
 
-/// Adds the tables of version 2 and the index of watches by item to those of version 1, within a transaction that was begun. After an
-/// error the connection is to be dropped.
+/// Adds the tables of version 2 and the index of watches by item to those of version 1, within a
+/// transaction that was begun. After an error the connection is to be dropped.
 #[tactic(auto, using(crate::proofs::MakeLemmas::none_grown, crate::proofs::MakeLemmas::all_grown))]
 pub fn add_tables<S: Alter>(conn: &mut Connection<S>) -> Result<(), KeepFault>
     requires first { HasCleanDisk (state S.Store conn.old)

@@ -157,6 +157,7 @@ module _ (moment : ℕ) (due : List Terms) (db : Database) (house : IsHouse db) 
 -- some of the items are closed, and the rest is to come
 pub record IsClosing (due rest : List Terms) (old now : Database) : Type 0 where
   pub house : IsHouse now
+  pub schema : now.schema ≡ old.schema
   pub others : KeepsOthers 6 old now
   pub starts : StartsFit due now
   pub items : map (with_ends rest) (items_in now.trees) ≡ map (with_ends due) (items_in old.trees)
@@ -164,6 +165,7 @@ pub record IsClosing (due rest : List Terms) (old now : Database) : Type 0 where
 pub closing_goes_on : (due rest : List Terms) (t : Terms) (old now next : Database) → IsClosing due (t ∷ rest) old now → OfItem t.item StartFits now → SetsClosed t.item (close_sells t.leader t.met) now next → IsClosing due rest old next
 closing_goes_on due rest t old now next so fits sets = record {
   house = sets.house;
+  schema = sets.schema ∙ so.schema;
   others = all_both (λ (x : Table). x.tree ≢ 6 → now.trees x.tree ≡ old.trees x.tree) (λ (x : Table). x.tree ≢ 6 → next.trees x.tree ≡ now.trees x.tree) (λ (x : Table). x.tree ≢ 6 → next.trees x.tree ≡ old.trees x.tree)
       (λ x before after other. after other ∙ before other) house_schema.tables so.others sets.others;
   starts = still due so.starts;
@@ -186,7 +188,7 @@ every_same f same [] = refl
 every_same f same (x ∷ xs) = rw (same x, every_same f same xs) refl
 
 pub closing_ends : (due : List Terms) (old now : Database) → IsClosing due [] old now → SetsItems (with_ends due) old now
-closing_ends due old now so = record { house = so.house; others = so.others; items = sym (every_same (with_ends []) (λ row. refl) (items_in now.trees)) ∙ so.items }
+closing_ends due old now so = record { house = so.house; schema = so.schema; others = so.others; items = sym (every_same (with_ends []) (λ row. refl) (items_in now.trees)) ∙ so.items }
 
 -- the item at a place is closed
 pub closing_steps : (due : List Terms) (i : ℕ) (t : Terms) (is_sold : Bool) (old now next : Database) → i < length due → t ≡ get_or due i t → is_sold ≡ close_sells t.leader t.met → IsClosing due (drop i due) old now → SetsClosed t.item is_sold now next

@@ -48,6 +48,7 @@ adds_item row old new was next none w =
     let long : length (items_in old.trees ++ row ∷ []) ≡ length (items_in old.trees) + 1 = longer (items_in old.trees) row in
     record {
       house = w.house;
+      schema = w.schema;
       numbered = record {
         house = rw h was.house;
         members = rw m was.members;
@@ -110,6 +111,7 @@ adds_reserved number amount item old mid new was next one two =
     let long : length (items_in new.trees) ≡ length (items_in old.trees) + 1 = ap length items ∙ longer (items_in old.trees) (new_item number (record item { reserve = Some amount })) in
     record {
       house = two.house;
+      schema = two.schema ∙ one.schema;
       numbered = record {
         house = rw h put.numbered.house;
         members = rw m put.numbered.members;
@@ -144,6 +146,7 @@ module _ (number moment : ℕ) (item : NewItem) (old mid new : Database) where
   unfolding changed
   with_next next it sealed = record {
     house = it.house;
+    schema = it.schema;
     numbered = it.numbered;
     tables = subst (λ (n : ℕ). tables_in new.trees ≡ record (tables_in old.trees) {
       clock = moment;
@@ -156,7 +159,7 @@ module _ (number moment : ℕ) (item : NewItem) (old mid new : Database) where
       → AddsListing (new_item number item) old mid → SetsClock moment mid new
       → Changes (Listed moment item) old new
   lists next one two =
-      let put : Makes (λ t. record t { items = t.items ++ new_item number item ∷ [] }) old mid = record { house = one.house; numbered = one.numbered; tables = one.tables } in
+      let put : Makes (λ t. record t { items = t.items ++ new_item number item ∷ [] }) old mid = record { house = one.house; schema = one.schema; numbered = one.numbered; tables = one.tables } in
       let it = makes_both _ _ old mid new put (sets_clock moment mid new put.numbered two) in
-      with_next (next ∙ ap (λ n. n + 1) same_items) (record { house = it.house; numbered = it.numbered; tables = it.tables })
+      with_next (next ∙ ap (λ n. n + 1) same_items) (record { house = it.house; schema = it.schema; numbered = it.numbered; tables = it.tables })
       (same_reserves 0 mid new (omega arith) two.others ∙ one.reserves)

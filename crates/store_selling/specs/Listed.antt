@@ -16,6 +16,7 @@ listed moment item end = List moment (record item { end = end })
 -- one item more, before the clock is set
 pub record AddsListing (row : ItemRow) (old new : Database) : Type 0 where
   pub house : IsHouse new
+  pub schema : new.schema ≡ old.schema
   pub numbered : IsNumbered new.trees
   pub tables : tables_in new.trees
       ≡ record (tables_in old.trees) { items = (tables_in old.trees).items ++ row ∷ [] }

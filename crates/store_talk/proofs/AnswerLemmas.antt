@@ -150,6 +150,7 @@ sets_answer old new item asker number text count u house low small less h =
     old new count house.schema house.shaped.1.1.1.1.1.1.1.0 typed (one_question item asker number (Text text ∷ []) low small less old.now house) h in
     record {
       house = still_house 12 _ old.now new.now house w.0 w.1;
+      schema = w.0.schema;
       others = w.0.others;
       questions = ap (map question_in) w.0.rows_are ∙ typed_where_set question_in (with_answer item asker number text) (passes by_question params) (answered text) IsTalk rows (are_questions old.now house)
           (λ r is e. rw (sym (same_test item asker number (Text text ∷ []) low small less r is) ∙ e, text_back text u) refl) (λ r is e. rw (sym (same_test item asker number (Text text ∷ []) low small less r is) ∙ e) refl);

@@ -31,6 +31,7 @@ adds_question old new item asker number text count item_low asker_low number_low
     let back : question_in given ≡ record { item = item; asker = asker; number = number; text = text; answer = None } = rw (small item item_low, small asker asker_low, small number number_low, text_back text u) refl in
     record {
       house = still_house 12 _ old.now new.now house w (IsShaped-put_row given rows refl shaped);
+      schema = w.schema;
       others = w.others;
       questions = ap (map question_in) (w.rows_are ∙ put_last given rows shaped refl) ∙ map_more question_in rows given
           ∙ ap (λ q. map question_in rows ++ q ∷ []) back;
@@ -57,6 +58,7 @@ adds_feedback old new f count item_low from_low to_low u house h =
     (puts _ put_feedback_text 8 feedback_layout feedback_terms 6 params (Null ∷ params) refl (put_feedback_is _).0 (put_feedback_is _).1 refl old new count house.schema h) in
     record {
       house = still_house 14 _ old.now new.now house w (IsShaped-put_row given rows refl shaped);
+      schema = w.schema;
       others = w.others;
       feedback_is = ap (map one_feedback_in) (w.rows_are ∙ put_last given rows shaped refl) ∙ map_more one_feedback_in rows given ∙ ap (λ x. map one_feedback_in rows ++ x ∷ []) (read_back (next_rowid rows) f.item f.from f.to f.rating f.text item_low from_low to_low u);
     }

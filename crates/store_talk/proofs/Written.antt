@@ -22,6 +22,7 @@ adds_question question old new was w =
     let f = w.others.1.1.1.1.1.1.1.1.0 (other 14 12 refl) in
     record {
       house = w.house;
+      schema = w.schema;
       numbered = stays_numbered 12 old new (omega arith, omega arith) was w.others;
       tables = same_people 12 old new (omega arith, omega arith) was w.others ∙ rw (d, v, f, adds_question_sorted question old new w) refl;
     }
@@ -34,6 +35,7 @@ sets_answer item asker number text old new was w =
     let f = w.others.1.1.1.1.1.1.1.1.0 (other 14 12 refl) in
     record {
       house = w.house;
+      schema = w.schema;
       numbered = stays_numbered 12 old new (omega arith, omega arith) was w.others;
       tables = same_people 12 old new (omega arith, omega arith) was w.others ∙ rw (d, v, f, sets_answer_sorted item asker number text old new w) refl;
     }
@@ -46,6 +48,7 @@ adds_feedback feedback old new was w =
     let q = w.others.1.1.1.1.1.1.1.0 (other 12 14 refl) in
     record {
       house = w.house;
+      schema = w.schema;
       numbered = stays_numbered 14 old new (omega arith, omega arith) was w.others;
       tables = same_people 14 old new (omega arith, omega arith) was w.others ∙ rw (d, v, q, adds_feedback_sorted feedback old new w) refl;
     }
@@ -55,14 +58,14 @@ unfolding changed
 answers moment item asker number text old mid new was one two =
     let put = sets_answer item asker number text.now old mid was one in
     let it = makes_both _ _ old mid new put (sets_clock moment mid new put.numbered two) in
-    record { house = it.house; numbered = it.numbered; tables = it.tables; reserves = same_reserves 0 mid new (omega arith) two.others ∙ same_reserves 12 old mid (omega arith) one.others }
+    record { house = it.house; schema = it.schema; numbered = it.numbered; tables = it.tables; reserves = same_reserves 0 mid new (omega arith) two.others ∙ same_reserves 12 old mid (omega arith) one.others }
 
 pub asks : (item asker number : ℕ) (text : Bor (List ℕ)) (old new : Database) → IsNumbered old.trees → AddsQuestion (record { item = item; asker = asker; number = number; text = text.now; answer = None }) old new
     → Changes (Ask item asker number text) old new
 unfolding changed
 asks item asker number text old new was w =
     let it = adds_question (record { item = item; asker = asker; number = number; text = text.now; answer = None }) old new was w in
-    record { house = it.house; numbered = it.numbered; tables = it.tables; reserves = same_reserves 12 old new (omega arith) w.others }
+    record { house = it.house; schema = it.schema; numbered = it.numbered; tables = it.tables; reserves = same_reserves 12 old new (omega arith) w.others }
 
 pub gives : (moment item from to : ℕ) (rating : Rating) (text : Bor (List ℕ)) (old mid new : Database) → IsNumbered old.trees → AddsFeedback (record { item = item; from = from; to = to; rating = rating; text = text.now }) old mid → SetsClock moment mid new
     → Changes (Rated moment item from to rating text) old new
@@ -70,4 +73,4 @@ unfolding changed
 gives moment item from to rating text old mid new was one two =
     let put = adds_feedback (record { item = item; from = from; to = to; rating = rating; text = text.now }) old mid was one in
     let it = makes_both _ _ old mid new put (sets_clock moment mid new put.numbered two) in
-    record { house = it.house; numbered = it.numbered; tables = it.tables; reserves = same_reserves 0 mid new (omega arith) two.others ∙ same_reserves 14 old mid (omega arith) one.others }
+    record { house = it.house; schema = it.schema; numbered = it.numbered; tables = it.tables; reserves = same_reserves 0 mid new (omega arith) two.others ∙ same_reserves 14 old mid (omega arith) one.others }

@@ -52,6 +52,7 @@ adds_watch old new row count member_low item_low house h =
     let back : watch_in given ≡ row = rw (small row.member member_low, small row.item item_low) refl in
     record {
       house = still_house 10 _ old.now new.now house w (IsShaped-put_row given rows refl shaped);
+      schema = w.schema;
       others = w.others;
       watches = ap (map watch_in) (w.rows_are ∙ put_last given rows shaped refl) ∙ map_more watch_in rows given ∙ ap (λ w. map watch_in rows ++ w ∷ []) back;
     }
@@ -66,6 +67,7 @@ removes_watch old new member item count house low small h =
     filter_same_on IsWatch (λ r. not (passes this_watch params r)) (λ r. not (is_watch member item (watch_in r))) (λ r is. ap not (rw (equals_number (column r 1) member is.0 low, equals_number (column r 2) item is.1 small) (two _ _))) rows (are_watches old.now house) in
     record {
       house = still_house 10 _ old.now new.now house w.0 w.1;
+      schema = w.0.schema;
       others = w.0.others;
       watches = ap (map watch_in) (w.0.rows_are ∙ same) ∙ sym (filter-map (λ v. not (is_watch member item v)) watch_in rows);
     }

@@ -18,6 +18,7 @@ cuts_watch member item old new was w =
     let f = w.others.1.1.1.1.1.1.1.1.0 (other 14 10 refl) in
     record {
       house = w.house;
+      schema = w.schema;
       numbered = stays_numbered 10 old new (omega arith, omega arith) was w.others;
       tables = same_people 10 old new (omega arith, omega arith) was w.others ∙ rw (d, q, f, removes_watch_sorted member item old new w) refl;
     }
@@ -30,13 +31,14 @@ adds_watch watch old new was w =
     let f = w.others.1.1.1.1.1.1.1.1.0 (other 14 10 refl) in
     record {
       house = w.house;
+      schema = w.schema;
       numbered = stays_numbered 10 old new (omega arith, omega arith) was w.others;
       tables = same_people 10 old new (omega arith, omega arith) was w.others ∙ rw (d, q, f, adds_watch_sorted watch old new w) refl;
     }
 
 pub unwatches : (member item : ℕ) (old new : Database) → IsNumbered old.trees → RemovesWatch member item old new → Changes (Unwatch member item) old new
 unfolding changed
-unwatches member item old new was w = let it = cuts_watch member item old new was w in record { house = it.house; numbered = it.numbered; tables = it.tables; reserves = same_reserves 10 old new (omega arith) w.others }
+unwatches member item old new was w = let it = cuts_watch member item old new was w in record { house = it.house; schema = it.schema; numbered = it.numbered; tables = it.tables; reserves = same_reserves 10 old new (omega arith) w.others }
 
 pub watches : (member item : ℕ) (old mid new : Database) → IsNumbered old.trees → RemovesWatch member item old mid → AddsWatch (record { member = member; item = item }) mid new → Changes (Watch member item) old new
 unfolding changed
@@ -44,4 +46,4 @@ watches member item old mid new was one two =
     let cut = cuts_watch member item old mid was one in
     let put = adds_watch (record { member = member; item = item }) mid new cut.numbered two in
     let it = makes_both _ _ old mid new cut put in
-    record { house = it.house; numbered = it.numbered; tables = it.tables; reserves = same_reserves 10 mid new (omega arith) two.others ∙ same_reserves 10 old mid (omega arith) one.others }
+    record { house = it.house; schema = it.schema; numbered = it.numbered; tables = it.tables; reserves = same_reserves 10 mid new (omega arith) two.others ∙ same_reserves 10 old mid (omega arith) one.others }

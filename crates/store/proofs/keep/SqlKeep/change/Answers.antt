@@ -11,7 +11,7 @@ use Rattle.store_rows.specs.declared.reserve.ReserveRow.{ReserveRow}
 use Rattle.store_rows.specs.declared.rules.Rules.{Rules}
 use Rattle.store.specs.After.{bands_set, with_table}
 use Rattle.store.specs.Kept.{content}
-use Rattle.store.proofs.Houses.{houses_or_made, houses_stay, shown_houses}
+use Rattle.store.proofs.Houses.{houses_or_made, houses_stay, schema_or_made, schema_stays, shown_houses, shown_schema}
 use Rattle.store.proofs.Known.{forgotten, seen_in}
 use Rattle.store.proofs.Moves.{can_add, known_after, left_after}
 use Rattle.store.proofs.keep.SqlKeep.change.Goals as goal
@@ -68,6 +68,7 @@ invariant_of-self-in-Ok g c = rw (c.take-seen.ensures.after) (record {
       (known_after c.self.inside.rules.editions c.self.inside.rules.reserves c.self.inside.counts c.self.inside.clock c.args.change.now (state g.S.Store c.self.inside.conn).now _ (c.self.invariant.known c.if-self.false before) (c.in-Ok.ensures.commit.ok honest).2);
   seen_fits = tt;
   houses = shown_houses (state g.S.Store c.make_change.new.conn) c.in-Ok.ensures.commit.only (λ honest. (c.in-Ok.ensures.commit.ok honest).2.house);
+  one_schema = shown_schema (state g.S.Store c.make_change.new.conn) c.in-Ok.ensures.commit.only (λ honest. (c.in-Ok.ensures.commit.ok honest).2.house);
 })
 
 -- where it fails a crash leaves what it left before, or the change
@@ -80,6 +81,9 @@ invariant_of-self-in-Err g c = rw (c.take-seen.ensures.after) (record {
   seen_fits = tt;
   houses = houses_stay _ _ c.reported_fault.ensures.crash
       (houses_or_made c.args.change.now _ _ c.in-Err.ensures.commit.crash c.self.invariant.houses);
+  one_schema = schema_stays _ _ c.reported_fault.ensures.crash
+      (schema_or_made c.args.change.now _ _ c.in-Err.ensures.commit.crash (λ db is_open may. g.met.S.Store.settled c.self.inside.conn.store db is_open may)
+      (c.self.invariant.rests c.if-self.false));
 })
 
 pub returns-in-Err-clause-crash : goal.returns-in-Err-clause-crash

@@ -57,6 +57,7 @@ invariant_of-self g c = record {
       (c.in-Ok-auction_at.ensures.finds.value honest) c.in-Ok-auction_at.ensures.fits c.in-Ok-auction_at.ensures.is_consistent);
   seen_fits = c.in-Ok-auction_at.ensures.fits;
   houses = search rules;
+  one_schema = search rules;
 }
 
 pub returns-in-Ok-auction_at-clause-is_consistent : goal.returns-in-Ok-auction_at-clause-is_consistent
