@@ -1,6 +1,6 @@
 #!/bin/sh
 # setup.sh CITY HOST: makes a house for a city, and serves it by nginx at https://HOST, as root. What is there already stays.
-# The package puts it into /usr/share/auction. The certificate is one of its own, until you put another there.
+# The package puts it into /usr/share/auction. The certificate is self-signed, until you put another there.
 set -eu
 share=/usr/share/auction
 . "$share/units.sh"
