@@ -2,9 +2,10 @@
 
 PROGRAM, and PLAIN, the house in plain Rust, answer the streams of `workload.py` through `replay`, and fifty items again and again.
 Meanwhile `perf` looks some thousand times a second which function runs, in rounds of both in turn. By its name a function moves
-memory, allocates or frees it, belongs to the kernel, or does something else. Shown is how many nanoseconds a message takes in each,
-with what sets the house up among them, and the functions in which ours is longest. What a compiler has put into another function
-counts as that one's. It needs Debian's `linux-perf`, and an idle machine.
+memory, allocates or frees it, copies rows that a look-up hands out, which plain Rust has none to do, belongs to the kernel, or does
+something else. Shown is how many nanoseconds a message takes in each, with what sets the house up among them, and the functions in
+which ours is longest. What a compiler has put into another function counts as that one's. It needs Debian's `linux-perf`, and an
+idle machine.
 """
 import collections
 import pathlib
@@ -22,6 +23,7 @@ WORDS = ["replay", "--preset"]
 KINDS = {"moving memory": re.compile(r"mem(?:cpy|move|set|cmp)"),
          "allocating and freeing": re.compile(r"\b(?:malloc|c?free|calloc|realloc|_int_\w+|unlink_chunk\w*|malloc_consolidate|sysmalloc"
                                               r"|__r\w+_(?:de|re)?alloc\w*)\b"),
+         "copying rows": re.compile(r"list_rows::copies::"),
          "the kernel": re.compile(r"^\[k\]")}
 REST = "anything else"
 ROW = re.compile(r"^\s*(\d+)\s+(\[.\] .*?)\s*$", re.M)
@@ -65,8 +67,9 @@ def profile(programs, folder):
                 found[whose] += sampled(program, stream, folder)
         one = 1e9 / SAMPLES / ROUNDS / count
         for kind in [*KINDS, REST]:
-            shown(f"{name}, {kind}", {whose: one * sum(samples for symbol, samples in counts.items() if kind_of(symbol) == kind)
-                                      for whose, counts in found.items()}, "ns")
+            times = {whose: one * sum(samples for symbol, samples in counts.items() if kind_of(symbol) == kind)
+                     for whose, counts in found.items()}
+            shown(f"{name}, {kind}", {whose: time for whose, time in times.items() if time or whose == "ours"}, "ns")
         for symbol, samples in found["ours"].most_common(LONGEST):
             print(f"    {one * samples:8.0f} ns {symbol[:120]}")
 
