@@ -23,7 +23,7 @@ import time
 import auctionmark
 import serve
 from lib.serving import PRESET, Program
-from measured import in_turn, kept, shown
+from measured import in_turn, kept, shown, shown_rounds
 
 # Traced are so many bids, and so many; measured are as many as the latter.
 FEW, MANY, ROUNDS = 1_000, 9_000, 7
@@ -168,7 +168,7 @@ def show_times(programs, traces, folder):
                            ("a bid that has the log written back", lambda name, times, _: middle(name, times, True)),
                            ("the mean of all", lambda name, times, _: statistics.mean(times)),
                            ("the server's time of one", lambda name, _, spent: spent)):
-        auctionmark.show(what, {name: [of_round(name, *one) for one in rounds] for name, rounds in found.items()}, "us", 1)
+        shown_rounds(what, {name: [of_round(name, *one) for one in rounds] for name, rounds in found.items()}, "us", 1)
 
 
 def main(path, *bench):
