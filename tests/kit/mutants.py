@@ -1,13 +1,15 @@
 #!/usr/bin/env python3
-"""Puts small wrong edits at random lines, and says what refuses them: `mutants.py SEED COUNT [NAME..]`.
+"""Puts small wrong edits at random lines, and says what refuses them: `mutants.py [--kept] SEED COUNT [NAME..]`.
 
 A seed draws lines of the bodies of all crates but those of tests and benches, or of named ones, so that each line is as likely as
 another, and one of the edits that fit it: a comparison turned, one more or less, a call left out, arguments swapped, a branch taken
 twice, another constant, a return before the line, `||` for `&&`, a `!` dropped. Each is checked as reasons.py checks an edit, with
 the same classes and the same folder of what is kept; one that doesn't compile is drawn again. Those that are refused only because
 answers of the proof no longer fit count apart: they say nothing of the contract. One that is PROVED is printed, with the reason
-that proved.tsv gives for it, or as a line of that file with none: it means the same as before, or a clause is missing. It needs
-the kit, with its `rt` on the path. The last line is 'N mutants, M proved, K of them with no reason'.
+that proved.tsv gives for it, or as a line of that file with none: it means the same as before, or a clause is missing. With --kept
+nothing is tried, and what is kept is counted. docs/MUTANTS.md gets the mutants of all crates by what they came to, and is left as it
+was where some crates are named. It needs the kit, with its `rt` on the path. The last line is 'N mutants, M proved, K of them with no
+reason'.
 
 Promise: none
 """
@@ -20,9 +22,27 @@ import sys
 
 from lib.crates import dependencies
 from lib.places import ROOT
-from lib.proved_bodies import reasons_given
-from lib.wrong_bodies import CLASSES, CRATES, NO_CODE, PROVED, REFUSED, Body, found, functions_of, key, table, try_bodies
+from lib.proved_bodies import cell, reasons_given
+from lib.wrong_bodies import CLASSES, CLAUSE, CRATES, NO_CODE, PANIC, PROVED, REFUSED
+from lib.wrong_bodies import Body, found, functions_of, key, kit, table, try_bodies
 
+PAGE = ROOT / "docs" / "MUTANTS.md"
+COLUMNS = ["At a clause", "At a panic", "By its answers alone", "No evidence", "Proved"]
+HEAD = """# Mutants
+
+Made by `make mutants SEED={seed} COUNT={count}`, with {kit}.
+
+A mutant is a small wrong edit at a random line of a body: a comparison turned, one more or less, a
+call left out, two arguments swapped, one branch in the place of the other, another constant, a
+return before the line. Each line of all crates but those of tests and benches is as likely as
+another.
+
+A mutant counts as refused where a goal of a contract, or of safety as at an index, is false or
+stays open: at a clause, or at a panic. One that is refused by its answers alone tells nothing of
+the contract, because the proof has an answer that no longer fits the changed code, and nobody wrote
+another. There is no evidence either where a search met a limit, or where only the invariant of a
+loop fails. One that is proved means the same as the right body, or a clause is missing.
+"""
 LEFT_OUT = re.compile(r"test_|bench_")
 # What stands in a line and is no code: texts, characters, and a comment at its end.
 NO_CODE_TEXT = re.compile(r'b?"(?:\\.|[^"\\])*"|b?\'(?:\\.[^\']*|[^\'\\])\'|//.*')
@@ -226,15 +246,9 @@ def line(body):
     return "\n".join([shown, *difference(body), f"    {reason}" if reason else "no reason: " + "\t".join(row_of(body))])
 
 
-def main():
-    if len(sys.argv) < 3 or not sys.argv[2].isdigit():
-        sys.exit(__doc__.split("\n", 1)[0])
-    seed, count, named = sys.argv[1], int(sys.argv[2]), sys.argv[3:]
-    unknown = [name for name in named if not (CRATES / name / "src").is_dir()]
-    if unknown:
-        sys.exit(f"no crate: {' '.join(unknown)}")
-    source = drawn(seed, [name for name in dependencies(ROOT) if name in named or not named and not LEFT_OUT.match(name)])
-    bodies, told = [], set()
+def compiling(source, count, is_tried):
+    """So many bodies that compile, or fewer where another run is at some of the first; each that doesn't makes room for another."""
+    bodies, told, order = [], set(), list(dependencies(ROOT))
 
     def tell(body):
         if key(body) not in told and found(body).kind != NO_CODE:
@@ -242,21 +256,62 @@ def main():
             print(line(body), flush=True)
 
     while len(bodies) < count:
-        # Those that don't compile make room for as many more.
         bodies += [next(source) for _ in range(count - len(bodies))]
-        try_bodies(sorted(bodies, key=lambda body: list(dependencies(ROOT)).index(body.crate)), told=tell,
-                   may_be_no_code=True)
-        tried = [body for body in bodies if found(body)]
-        if len(tried) < len(bodies):
-            break
+        if is_tried:
+            try_bodies(sorted(bodies, key=lambda body: order.index(body.crate)), told=tell, may_be_no_code=True)
+        known = [body for body in bodies if found(body)]
+        if len(known) < len(bodies):
+            return [body for body in known if found(body).kind != NO_CODE]
         bodies = [body for body in bodies if found(body).kind != NO_CODE]
-    results = [found(body) for body in bodies if found(body)]
+    return bodies
+
+
+def column(one):
+    """The column of the page in which a mutant counts."""
+    if one.kind == PROVED:
+        return "Proved"
+    if one.by_shape():
+        return "By its answers alone"
+    return {CLAUSE: "At a clause", PANIC: "At a panic"}.get(one.kind, "No evidence")
+
+
+def page(seed, bodies):
+    """The page of mutants that were drawn of all crates."""
+    counts = {}
+    for body in bodies:
+        counts.setdefault(body.crate, collections.Counter())[column(found(body))] += 1
+    counts = {crate: counts[crate] for crate in dependencies(ROOT) if crate in counts}
+    counts["all"] = sum(counts.values(), collections.Counter())
+    rows = [["Crate", "Mutants", *COLUMNS], ["---"] * (len(COLUMNS) + 2)]
+    rows += [[crate, str(sum(ways.values())), *(str(ways[name]) for name in COLUMNS)] for crate, ways in counts.items()]
+    lines = [HEAD.format(count=len(bodies), seed=seed, kit=kit().strip()), *(f"| {' | '.join(row)} |" for row in rows)]
+    proved = [row_of(body) for body in bodies if found(body).kind == PROVED]
+    if proved:
+        lines += ["", "## Proved", "", "| Crate | Function | Change | Why no clause refuses it |", "|---|---|---|---|"]
+        lines += [f"| {crate} | {cell(function)} | {cell(change)} | {reasons_given().get((crate, function, change), '')} |"
+                  for crate, function, change in proved]
+    return "\n".join(lines) + "\n"
+
+
+def main():
+    words = [word for word in sys.argv[1:] if word != "--kept"]
+    if len(words) < 2 or not words[1].isdigit():
+        sys.exit(__doc__.split("\n", 1)[0])
+    seed, count, named = words[0], int(words[1]), words[2:]
+    unknown = [name for name in named if not (CRATES / name / "src").is_dir()]
+    if unknown:
+        sys.exit(f"no crate: {' '.join(unknown)}")
+    crates = [name for name in dependencies(ROOT) if name in named or not named and not LEFT_OUT.match(name)]
+    bodies = compiling(drawn(seed, crates), count, words == sys.argv[1:])
+    results = [found(body) for body in bodies]
     counts = collections.Counter(one.kind for one in results)
     shaped = collections.Counter(one.kind for one in results if one.kind in REFUSED and one.by_shape())
     print()
     print("\n".join(table([["came to", "mutants", "by its answers alone"],
                            *([name, str(counts[name] or "-"), str(shaped[name] or "-")] for name in CLASSES if name != NO_CODE)])))
-    open_ones = [body for body in bodies if found(body) and found(body).kind == PROVED and row_of(body) not in reasons_given()]
+    if not named and len(bodies) == count:
+        PAGE.write_text(page(seed, bodies))
+    open_ones = [body for body in bodies if found(body).kind == PROVED and row_of(body) not in reasons_given()]
     print(f"{len(results)} mutants, {counts[PROVED]} proved, {len(open_ones)} of them with no reason")
     return 1 if open_ones else 0
 

@@ -18,7 +18,7 @@ import sys
 
 from lib.crates import dependencies
 from lib.places import ROOT
-from lib.proved_bodies import reasons_given
+from lib.proved_bodies import cell, reasons_given
 from lib.wrong_bodies import CRATES, copied, kit, sum_of
 
 KEPT, PAGE = ROOT / "out" / "planted", ROOT / "docs" / "PLANTED.md"
@@ -98,10 +98,6 @@ def row(crate, said):
     tried = kinds["refused"] + kinds["proves"] + kinds["same"] + unjudged - sum(why.startswith(UNCHANGED) for *_, why in rows)
     counts = [functions, tried, kinds["refused"], kinds["proves"], kinds["same"], unjudged]
     return f"| {crate} | {' | '.join(map(str, counts))} | {why_not(rows)} |"
-
-
-def cell(text):
-    return f"`{text}`".replace("|", "\\|") if text else "nothing"
 
 
 def proved_in(found):

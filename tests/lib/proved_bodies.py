@@ -13,3 +13,8 @@ def reasons_given():
     """By crate, place and body, the reason."""
     rows = [line.split("\t") for line in ROWS.read_text().splitlines() if line and not line.startswith("#")]
     return {(crate, place, body): reason for crate, place, body, reason in rows}
+
+
+def cell(text):
+    """A text as code in a cell of a table."""
+    return f"`{text}`".replace("|", "\\|") if text else "nothing"

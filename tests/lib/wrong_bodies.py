@@ -203,10 +203,15 @@ def kit():
     return subprocess.run(["rt", "version"], capture_output=True, text=True, check=True).stdout
 
 
+def logic():
+    """The logic that the kit proves by, which several kits may have."""
+    return kit().split()[-1]
+
+
 @functools.cache
 def sum_of(crate):
-    """A sum of all that a check of a crate reads: its own text, what is stated below it, and the kit."""
-    total = hashlib.sha256(kit().encode())
+    """A sum of all that a check of a crate reads: its own text, what is stated below it, and the logic of the kit."""
+    total = hashlib.sha256(logic().encode())
     for name, parts in [(crate, PARTS), *((below, PARTS[:2]) for below in dependencies(ROOT)[crate])]:
         for path in sorted(path for part in parts for path in (CRATES / name / part).rglob("*") if path.is_file()):
             total.update(repr((str(path.relative_to(CRATES)), path.read_bytes())).encode())
