@@ -112,6 +112,7 @@ pub fn push<R: Drop>(rows: &mut Vec<R>, row: R) -> Result<(), KeepFault>
 /// A copy of one more row.
 pub fn push_copy<R: Copied + Drop>(rows: &mut Vec<R>, row: &R) -> Result<(), KeepFault>
     ensures ok { OnOk result (rows.new.items ≡ rows.old.items ++ row.now ∷ []) }
+    ensures err { OnErr result (rows.new.items ≡ rows.old.items) }
     ensures memory { IfErr result (λ e. e ≡ fault.Memory) }
 {
     match row.try_clone() {
