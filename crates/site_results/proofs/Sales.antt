@@ -23,7 +23,7 @@ use Rattle.house_rows.specs.CommandResult.{bought_result, settled_result}
 use Rattle.house_rows.proofs.ChangedRows.{purchase_number, settlement_number, there_is}
 use Rattle.house_rows.proofs.Put.{by_test}
 use Rattle.house_rows.proofs.Shown.{shown_row}
-use Rattle.site_results.specs.ByTables.{IsResultBy}
+use Rattle.site_results.specs.ByTables.{IsResultBy, settled_by}
 use Rattle.site_results.proofs.Seen.{IsReported, accepted_as, ok_as, row_changed, seen_after, report_as}
 
 numbered : (i : ℕ) (row : ItemRow) → is_item i row ≡ true → row.item.terms.item ≡ i
@@ -94,12 +94,8 @@ settled_now settings t i row here =
     let price = row.item.terms.price in
     rw here (ap (λ n. Settlement (fee_of price settings.rate) n (price - fee_of price settings.rate) price) (numbered i row here))
 
--- the result of a sale with these terms
-abbrev IsSettled : Tables → ℕ → CommandResult → Terms → Type 0
-IsSettled t i r terms = r ≡ Settlement (fee_of terms.price t.settings.rate) i (terms.price - fee_of terms.price t.settings.rate) terms.price
-
 sale_reported : (settings : Settings) (h : History) (moment caller at' i : ℕ) (row : ItemRow) (r : CommandResult) → row_at (tables_of settings h) i ≡ Some row
-    → IsAccepted settings h moment caller (command.Settle i) (change.Settle at' i) → IsSettled (tables_of settings h) i r row.item.terms
+    → IsAccepted settings h moment caller (command.Settle i) (change.Settle at' i) → r ≡ settled_by (tables_of settings h).settings.rate i (Some row.item.terms)
     → IsReported settings h moment caller (command.Settle i) r
 unfolding tables_of
 sale_reported settings h moment caller at' i row r found is tells =
@@ -117,5 +113,5 @@ settle_reported t settings h moment caller k result at' i e is own value =
     let terms_there : terms_at (tables_of settings h) i ≡ Some fits.row.item.terms = ap (option_map (λ (row : ItemRow). row.item.terms)) fits.row_there in
     ok_as (IsResultBy (tables_of settings h) (change.Settle at' i)) (IsReported settings h moment caller k) result
     (λ r v. report_as settings h moment caller (command.Settle i) k r own.same_command
-    (sale_reported settings h moment caller at' i fits.row r fits.row_there (accepted_as settings h moment caller (command.Settle i) k (change.Settle at' i) own.same_command is) (v fits.row.item.terms terms_there)))
+    (sale_reported settings h moment caller at' i fits.row r fits.row_there (accepted_as settings h moment caller (command.Settle i) k (change.Settle at' i) own.same_command is) (v ∙ ap (settled_by (tables_of settings h).settings.rate i) terms_there)))
     (rw e at value)

@@ -1,5 +1,5 @@
 -- The result of a change, by the tables that it is made to.
-use Rattle.std.specs.Prelude.{◌≡◌, ◌<◌, ◌+◌, ◌-◌, ℕ, List, ◌∷◌, IfOk, Result, Some, length, true, false}
+use Rattle.std.specs.Prelude.{◌≡◌, ◌<◌, ◌+◌, ◌-◌, ℕ, List, ◌∷◌, IfOk, Result, Option, Some, None, length, true, false}
 use Rattle.proxy.specs.Bids.{floor, standing_of}
 use Rattle.proxy.specs.Kept.{opening_of}
 use Rattle.proxy.specs.declared.bid.Bid.{Bid}
@@ -21,6 +21,13 @@ use Rattle.house_rows.specs.Found.{due_at, terms_at}
 use Rattle.house_rows.specs.Limits.{most_categories, most_editions, most_items, most_members}
 use Rattle.house_rows.specs.Tables.{Tables, bands_for}
 
+-- of a settlement: the price of a sale with these terms, in its two parts by the rate, and nothing of
+-- an item that isn't there
+abbrev pub settled_by : ℕ → ℕ → Option Terms → CommandResult
+settled_by rate item None = told.Nothing
+settled_by rate item (Some terms) =
+    told.Settlement (fee_of terms.price rate) item (terms.price - fee_of terms.price rate) terms.price
+
 -- the result is the change's: the next number, where there is room for one; the standing after a bid;
 -- what a close ends; the shares of a sale; and what the change itself names
 abbrev pub IsResultBy : Tables → Change → CommandResult → Type 0
@@ -38,9 +45,7 @@ IsResultBy t (change.Buy moment item buyer price) result = result ≡ told.Bough
 IsResultBy t (change.Close moment) result =
     result ≡ told.Closed (due_at t moment).sold (due_at t moment).unsold
 IsResultBy t (change.Settle moment item) result =
-    (terms : Terms) → terms_at t item ≡ Some terms
-    → result ≡ told.Settlement (fee_of terms.price t.settings.rate) item
-    (terms.price - fee_of terms.price t.settings.rate) terms.price
+    result ≡ settled_by t.settings.rate item (terms_at t item)
 IsResultBy t (change.Watch member item) result = result ≡ told.Watched item true
 IsResultBy t (change.Unwatch member item) result = result ≡ told.Watched item false
 IsResultBy t (change.Ask item asker number text) result = result ≡ told.Question asker item number

@@ -1,10 +1,10 @@
 //! The result of a settlement: the price, the house's fee and what is left to the seller.
-ghost use Rattle.std.specs.Prelude.{◌≡◌, ◌≤◌, ◌-◌, Some};
+ghost use Rattle.std.specs.Prelude.{◌≡◌, ◌≤◌, ◌-◌};
 ghost use Rattle.settle.specs.Fee.{fee_of};
 ghost use Rattle.house_rows.specs.Answers.{Answers};
-ghost use Rattle.house_rows.specs.declared.item.Terms.{Terms as TheTerms};
 ghost use Rattle.house_rows.specs.Found.{terms_at};
 ghost use Rattle.house_rows.specs.Taken.{ItemFitsAt};
+ghost use Rattle.site_results.specs.ByTables.{settled_by};
 
 use cents::Cents;
 use house_rows::{CommandResult, Keep, KeepFault};
@@ -12,10 +12,7 @@ use house_rows::{CommandResult, Keep, KeepFault};
 /// The result of the settlement of an item's sale. Of an item that isn't there it is nothing.
 pub(crate) fn tell_settlement<K: Keep>(keep: &mut K, item: u32) -> Result<CommandResult, KeepFault>
     ensures { Answers K.Keep keep.old keep.new result
-        (λ t r. (terms : TheTerms) → terms_at t item ≡ Some terms
-        → r ≡ CommandResult.Settlement (fee_of terms.price t.settings.rate) item
-        (terms.price - fee_of terms.price t.settings.rate) terms.price)
-        (ItemFitsAt item) }
+        (λ t r. r ≡ settled_by t.settings.rate item (terms_at t item)) (ItemFitsAt item) }
 {
     let rate = keep.settings()?.rate.value();
     match keep.terms(u64::from(item))? {
