@@ -1,5 +1,8 @@
 -- Members of an object, one after the other, as text and in a map.
-use Rattle.std.proofs.Common.{◌≡◌, ℕ, List, [], ◌++◌, ◌∙◌, take, drop, length, ap, refl, sym, BTreeMap, Global, Ok, String}
+use Rattle.std.proofs.Common.{◌≡◌, ℕ, List, [], ◌++◌, ◌∙◌, take, drop, length, ap, refl, sym, arith, BTreeMap, Global, Result, Ok, Err, String}
+use Rattle.std.proofs.lemmas.List.{take_all}
+use Rattle.std.specs.Prelude.{OnOk, OnErr}
+use Rattle.std.specs.Io.{StartsWith}
 use Rattle.house_rows.specs.declared.keep.Keep.{Ghosts}
 use Rattle.house_rows.specs.Tables.{Tables}
 use Rattle.serde_json.specs.Data.{object}
@@ -36,5 +39,13 @@ record_put keep {old = old} {before = before} {now = now} {after = after} start 
       text = λ honest. text ∙ object_enclosed (front_by t ++ (middle_by t ++ back_by t)) before now start at (part.text honest);
       front = ap (λ n. take n after) (sym at) ∙ front ∙ ap (λ n. take n now) at ∙ part.front;
       faults = part.faults;
+      damaged = part.damaged;
       read = part.read;
     }
+
+-- what was in front stays there, whether the text stays or is cut off again
+pub front_stays : {E : Type 0} (put : Result (Unit {0}) E) (n : ℕ) (before mid after : List ℕ) → n ≡ length before
+    → StartsWith mid before → OnOk put (after ≡ mid) → OnErr put (after ≡ take n mid) → StartsWith after before
+front_stays (Ok u) n before mid after at front ok err = ap (take (length before)) ok ∙ front
+front_stays (Err f) n before mid after at front ok err =
+    ap (take (length before)) (err ∙ ap (λ k. take k mid) at ∙ front) ∙ take_all (length before) before (omega arith)

@@ -1,2 +1,3 @@
 pub mod Record
+pub mod Taken
 pub mod Promises

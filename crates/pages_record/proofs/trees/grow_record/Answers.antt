@@ -7,5 +7,6 @@ returns g c = record {
   grown = λ honest. record_grown (g.K.Keep.content c.args.keep.now) _ c.grow_all.new.members
       c.new-members.ensures.empty (c.in_ok-grow_all.ensures.grown honest);
   faults = search rules;
+  damaged = search rules;
   read = search rules;
 }
