@@ -1,8 +1,8 @@
 //! What two keeps show, compared: what everybody may see, and what waits for a member.
 //!
-//! Promised: over the tables of two histories each call says whether the histories have the same
-//! settings, the same public view, or the same questions waiting; both keeps stay as they were. Read
-//! `specs/Views.antt` first, and then `views`.
+//! Promised: each call says whether the tables of the two have the same settings, the same public rows,
+//! or the same questions waiting, and so of the tables of two histories whether these have the same
+//! public view; both keeps stay as they were. Read `specs/Views.antt` first, and then `views`.
 #![tactic(auto)]
 
 mod same;

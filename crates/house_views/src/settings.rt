@@ -1,6 +1,7 @@
 //! Whether two keeps were set up alike.
 ghost use Rattle.std.specs.Prelude.{◌≡◌, ◌↔◌, true, IfOk};
 ghost use Rattle.steps.specs.Table.{IsBandTable};
+ghost use Rattle.house_rows.specs.Taken.{IsUndamaged};
 ghost use Rattle.house_views.specs.Views.{PairFaults};
 
 use crate::same::{Same, are_same};
@@ -24,6 +25,7 @@ pub fn have_same_settings<K: Keep>(left: &K, right: &K) -> Result<bool, KeepFaul
         → IfOk result (λ _. IsBandTable (K.content left.now).settings.bands) }
     ensures faults { PairFaults result (K.is_honest left.now × K.is_honest right.now)
         (K.is_failed left.now) (K.is_failed right.now) (K.content left.now) (K.content right.now) }
+    ensures damaged { K.is_honest left.now → K.is_honest right.now → IsUndamaged result }
 {
     let settings = left.settings()?;
     let others = right.settings()?;

@@ -2,15 +2,10 @@ use Rattle.std.proofs.lemmas.Result.{IfOk-weaker}
 use Rattle.house_views.proofs.Public.{public_reported}
 use Rattle.house_views.proofs.views.have_same_public.Goals as goal
 
-pub returns : goal.returns
-returns g c = record {
-  report = λ left right.
-      let content = g.K.Keep.content in
-      IfOk-weaker c.have_same_rows.result _ _
-      (λ same alike settings h k e d.
-      public_reported settings h k (content c.args.left.now) (content c.args.right.now) same e d alike)
-      (c.have_same_rows.ensures.report left right);
-  faults = c.have_same_rows.ensures.faults;
-  left = c.have_same_rows.ensures.left;
-  right = c.have_same_rows.ensures.right;
-}
+pub returns-clause-views : goal.returns-clause-views
+returns-clause-views g c = λ left right.
+    let content = g.K.Keep.content in
+    IfOk-weaker c.have_same_rows.result _ _
+    (λ same alike settings h k e d.
+    public_reported settings h k (content c.args.left.now) (content c.args.right.now) same e d alike)
+    (c.have_same_rows.ensures.report left right)

@@ -18,7 +18,7 @@ returns-in_err-agree-clause-report g c = λ honest honest' settings h k is is' e
     (seen_gave n.content n.is_failed (Agrees settings c.args.caller h k) a b c.agree.new.left
     c.agree.new.right f c.from_residual.result c.from_residual.ensures
     (seen_err n.content n.is_failed (Agrees settings c.args.caller h k) _ a b c.agree.new.left
-    c.agree.new.right f c.in_err-agree.ensures.faults (honest, honest')
+    c.agree.new.right f c.in_err-agree.ensures.tables.faults (honest, honest')
     (sound_if settings h (n.content a) is (same ∙ e))
     (sound_if settings k (n.content b) is' (same' ∙ d))))
 
@@ -33,6 +33,6 @@ returns-clause-report g c = λ honest honest' settings h k is is' e d.
     (keep_of c.args.left.now) (keep_of c.args.right.now) c.agree.new.left c.agree.new.right
     (Ok c.in_ok-agree.field-0) same same'
     (seen_ok n.content n.is_failed n.is_honest n.may_leave (Agrees settings c.args.caller h k) a b
-    c.agree.new.left c.agree.new.right c.in_ok-agree.field-0 c.in_ok-agree.ensures.faults
-    c.in_ok-agree.ensures.left c.in_ok-agree.ensures.right honest honest'
-    (c.in_ok-agree.ensures.report honest honest' settings h k (same ∙ e) (same' ∙ d)))
+    c.agree.new.left c.agree.new.right c.in_ok-agree.field-0 c.in_ok-agree.ensures.tables.faults
+    c.in_ok-agree.ensures.tables.left c.in_ok-agree.ensures.tables.right honest honest'
+    (c.in_ok-agree.ensures.views honest honest' settings h k (same ∙ e) (same' ∙ d)))
