@@ -7,6 +7,7 @@ ghost use Rattle.house_rows.specs.declared.settings.Settings.{Settings as TheSet
 ghost use Rattle.house_rows.specs.History.{History};
 ghost use Rattle.house_rows.specs.Keeping.{Faults};
 ghost use Rattle.house_rows.specs.Tables.{tables_of};
+ghost use Rattle.house_rows.specs.Taken.{IsUndamaged};
 ghost use Rattle.pages_record.specs.Record.{record_text};
 ghost use Rattle.settle.specs.Zoned.{IsZoneOf};
 ghost use Rattle.steps.specs.Table.{IsBandTable};
@@ -214,12 +215,13 @@ impl<K: Keep + Drop> Site<K> {
     }
 
     /// Whether no command was accepted yet, but closes of an empty house at moment 0, which leave
-    /// no trace.
+    /// no trace. Damaged is never answered, whatever the rows are.
     pub fn is_new(&mut self) -> Result<bool, KeepFault>
         ensures report { OverHistory K.Keep self.old.keep self.new.keep (λ settings h. IfOk result
             (λ new. (new ≡ true) ↔ (K.content self.old.keep ≡ tables_of settings []))) }
         ensures faults { Faults result (K.is_honest self.new.keep) (K.is_failed self.new.keep)
             (K.content self.old.keep) }
+        ensures undamaged { K.is_honest self.new.keep → IsUndamaged result }
         ensures read { Reads K.Keep self.old.keep self.new.keep }
         ensures zone { zone_of self.new ≡ zone_of self.old }
     {
