@@ -57,11 +57,13 @@ IsFound content is_failed settings zone c lefts rights left right (Err Memory) =
 IsFound content is_failed settings zone c lefts rights left right (Err Store) =
     (is_failed left ≡ true) ⊎ (is_failed right ≡ true)
 
--- the result for two lists over any houses: NotNew exactly where an audit can't begin
+-- the result for two lists over any houses: NotNew exactly where an audit can't begin, and then the
+-- tables stay
 abbrev pub IsVerdict : {K : Type 0} → (K → Tables) → (K → Bool) → Settings → Zone → ℕ → List Heard
     → List Heard → K → K → K → K → Result Verdict AuditFault → Type 0
 IsVerdict content is_failed settings zone c lefts rights left right left_new right_new (Err NotNew) =
-    ¬ (MayBegin (content left) (content right))
+    (¬ (MayBegin (content left) (content right)))
+    × (content left_new ≡ content left) × (content right_new ≡ content right)
 IsVerdict content is_failed settings zone c lefts rights left right left_new right_new (Err Memory) =
     Unit {0}
 IsVerdict content is_failed settings zone c lefts rights left right left_new right_new (Err Store) =

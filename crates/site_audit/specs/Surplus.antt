@@ -52,11 +52,12 @@ IsSurplusFound content is_failed settings zone c place y heards left right (Err 
     (is_failed left ≡ true) ⊎ (is_failed right ≡ true)
 IsSurplusFound content is_failed settings zone c place y heards left right (Err NotNew) = ⊥
 
--- the result over any houses: NotNew exactly where an audit can't begin
+-- the result over any houses: NotNew exactly where an audit can't begin, and then the tables stay
 abbrev pub IsSurplusResult : {K : Type 0} → (K → Tables) → (K → Bool) → Settings → Zone → ℕ → ℕ → ℕ
     → List Heard → K → K → K → K → Result Surplus AuditFault → Type 0
 IsSurplusResult content is_failed settings zone c place y heards left right left_new right_new
-    (Err NotNew) = ¬ (MayBegin (content left) (content right))
+    (Err NotNew) = (¬ (MayBegin (content left) (content right)))
+    × (content left_new ≡ content left) × (content right_new ≡ content right)
 IsSurplusResult content is_failed settings zone c place y heards left right left_new right_new
     (Err Memory) = Unit {0}
 IsSurplusResult content is_failed settings zone c place y heards left right left_new right_new

@@ -145,7 +145,7 @@ pub fn surplus_from<K: Keep + Drop>(
 /// A bid is covered where it is accepted and its bidder's last on its item, and in the end its bidder
 /// leads, by a maximum of at least one step over the second, if there is one; and the other maximum
 /// is a greater amount. NotNew is answered exactly where a house isn't new, or the two were set up
-/// differently.
+/// differently, and then nothing is changed.
 pub fn surplus<K: Keep + Drop>(
     alloc: Global,
     left: &mut Site<K>,

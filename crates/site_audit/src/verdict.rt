@@ -91,7 +91,8 @@ pub fn audit_from<K: Keep + Drop>(
 ///
 /// Twin runs are of equal length; at each place the messages are equal, byte for byte, or neither is
 /// the caller's; and after each place everything public agrees, and the questions that wait for the
-/// caller. NotNew is answered exactly where a house isn't new, or the two were set up differently.
+/// caller. NotNew is answered exactly where a house isn't new, or the two were set up differently,
+/// and then nothing is changed.
 pub fn audit<K: Keep + Drop>(
     alloc: Global,
     left: &mut Site<K>,
