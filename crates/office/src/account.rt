@@ -4,6 +4,7 @@ ghost use Rattle.house_rows.specs.Answers.{Reads};
 ghost use Rattle.house_rows.specs.Found.{sales_to};
 ghost use Rattle.house_rows.specs.Keeping.{AreSound};
 ghost use Rattle.house_rows.specs.Pages.{member_at};
+ghost use Rattle.house_rows.specs.Taken.{MemberFitsAt, SalesFit};
 ghost use Rattle.settle.specs.Statement.{statement_of};
 ghost use Rattle.settle.specs.Zoned.{IsZoneOf};
 ghost use Rattle.site.specs.Replies.{IsReadable};
@@ -43,8 +44,11 @@ impl From<KeepFault> for StatementFault {
     }
 }
 
-/// The statement of a member for the days from `from` to `to`, by the kept sales, zone and rate. A
-/// zone that can't be read is reported before a member whom nobody knows.
+/// The statement of a member for the days from `from` to `to`, by the kept sales, zone and rate.
+///
+/// A zone that can't be read is reported before a member whom nobody knows, and both before a period
+/// that ends before it begins. Damaged is answered only where the zone, the member's row or that of
+/// an item to whose sale it may be a party doesn't fit.
 pub fn statement<K: Keep>(
     alloc: Global,
     keep: &mut K,
@@ -60,10 +64,18 @@ pub fn statement<K: Keep>(
         → is_some (member_at (K.content keep.old).members member) ≡ true }
     ensures unknown { K.is_honest keep.new → IsErrOf result StatementFault.Member
         → is_some (member_at (K.content keep.old).members member) ≡ false }
+    ensures zone { K.is_honest keep.old → IsErrOf result StatementFault.Member
+        → IsReadable (K.content keep.old).settings.zone }
     ensures order { IsErrOf result StatementFault.Order → to < from }
+    ensures last { K.is_honest keep.new → IsErrOf result StatementFault.Order
+        → IsReadable (K.content keep.old).settings.zone
+        × (is_some (member_at (K.content keep.old).members member) ≡ true) }
     ensures within { OnOk result (from ≤ to) }
     ensures damaged { K.is_honest keep.new → AreSound (K.content keep.old)
         → IsErrOf result StatementFault.Damaged
+        → ¬ (IsReadable (K.content keep.old).settings.zone) }
+    ensures undamaged { K.is_honest keep.new → MemberFitsAt member (K.content keep.old)
+        → SalesFit member (K.content keep.old) → IsErrOf result StatementFault.Damaged
         → ¬ (IsReadable (K.content keep.old).settings.zone) }
     ensures store { IsErrOf result StatementFault.Store ↔ (K.is_failed keep.new ≡ true) }
     ensures read { Reads K.Keep keep.old keep.new }

@@ -6,6 +6,7 @@ ghost use Rattle.csv.specs.Records.{fields_of};
 ghost use Rattle.house_rows.specs.Answers.{Reads};
 ghost use Rattle.house_rows.specs.Keeping.{AreSound};
 ghost use Rattle.house_rows.specs.Pages.{member_at};
+ghost use Rattle.house_rows.specs.Taken.{MemberFitsAt};
 ghost use Rattle.site.specs.Replies.{zone_of};
 ghost use Rattle.site.specs.Histories.{Steps};
 ghost use Rattle.steps.specs.Reading.{HasRead, records_of};
@@ -33,7 +34,7 @@ use std::alloc::Global;
 use std::io::{Read, Write};
 
 /// Whether a member is registered, as it has to be before a lot of its own is listed: if not, that
-/// is the fault `Member`.
+/// is the fault `Member`. Damaged is answered only where the member's row doesn't fit.
 pub fn check_member<K: Keep>(keep: &mut K, member: u64) -> Result<(), ImportFault>
     ensures known { K.is_honest keep.new → IsOk result
         → is_some (member_at (K.content keep.old).members member) ≡ true }
@@ -41,6 +42,8 @@ pub fn check_member<K: Keep>(keep: &mut K, member: u64) -> Result<(), ImportFaul
         → is_some (member_at (K.content keep.old).members member) ≡ false }
     ensures store { IsErrOf result ImportFault.Store ↔ (K.is_failed keep.new ≡ true) }
     ensures damaged { K.is_honest keep.new → AreSound (K.content keep.old)
+        → ¬ (IsErrOf result ImportFault.Damaged) }
+    ensures undamaged { K.is_honest keep.new → MemberFitsAt member (K.content keep.old)
         → ¬ (IsErrOf result ImportFault.Damaged) }
     ensures fault { IfErr result IsLookUpFault }
     ensures read { Reads K.Keep keep.old keep.new }
