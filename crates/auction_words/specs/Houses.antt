@@ -6,6 +6,7 @@ use Rattle.jiff.specs.Words.{read_whole}
 use Rattle.settle.specs.Zoned.{IsPlainText}
 use Rattle.steps.specs.Example.{example_table}
 use Rattle.steps.specs.declared.fault.BandsFault.{BandsFault}
+use Rattle.steps.specs.declared.fault.BandsFault.TheVariants.{Memory as NoMemory}
 use Rattle.auction_words.specs.declared.command_line.HouseWords.{HouseWords}
 use Rattle.auction_words.specs.declared.settings.SettingsFault.{SettingsFault}
 use Rattle.auction_words.specs.declared.settings.SettingsFault.TheVariants.{Bands, Memory, Zone}
@@ -22,10 +23,11 @@ pub record IsSetBy (words : HouseWords) (settings : Settings) : Type 0 where
   pub zone : settings.zone ≡ words.zone.now
   pub readable : IsReadable settings.zone
 
--- why words name no settings: memory was refused, the band table has a fault, or the zone can't be
--- read
+-- why words name no settings: memory was refused; the band table has a fault, which without a file
+-- is that memory was refused for the example table; or the zone can't be read
 abbrev pub IsUnset : HouseWords → SettingsFault → Type 0
-IsUnset words fault = (fault ≡ Memory) ⊎ (((bands : BandsFault) × (fault ≡ Bands bands))
+IsUnset words fault = (fault ≡ Memory)
+    ⊎ (((bands : BandsFault) × (fault ≡ Bands bands) × (words.bands ≡ None → bands ≡ NoMemory))
     ⊎ ((fault ≡ Zone) × ¬ (IsReadable words.zone.now)))
 
 -- the tables of a house to which nothing has happened yet, with the settings that words name

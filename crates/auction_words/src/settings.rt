@@ -34,7 +34,8 @@ pub fn read_bands<R: Files>(rt: &R, alloc: Global, path: &str) -> Result<Bands, 
 
 // The band table of a file, or the example table.
 fn table<R: Files>(rt: &R, alloc: Global, path: Option<&str>) -> Result<Bands, BandsFault>
-    ensures { path.entry ≡ None → IfOk result (λ bands. bands ≡ example_table) }
+    ensures example { path.entry ≡ None → IfOk result (λ bands. bands ≡ example_table) }
+    ensures memory { path.entry ≡ None → IfErr result (λ fault. fault ≡ BandsFault.Memory) }
 {
     match path {
         None => Bands::example(alloc),
