@@ -39,18 +39,22 @@ module _ {C K : Type 0} (is_failed : K → Bool) (Takes : C × K → C × K → 
   )
 
   -- whatever ended it
-  pub some_of_end : (old : C × K) (keep : K) {fault : _}
-      → StopsServing is_failed Takes count old keep fault
-      → HasTakenSome is_failed Takes count old keep
-  some_of_end old keep (inl none) =
-      subst (HasTakenSome is_failed Takes count old) (sym none.1) (some_of_none old)
-  some_of_end old keep (inr (inl taken)) = record { last = taken.1.0; taken = inl taken.1.1 }
-  some_of_end old keep (inr (inr failed)) = record { last = failed.1.0; taken = inr failed.1.1 }
+  pub some_of_end : {R W : Type 0}
+      (accepts : C → Result (Option (Connection R W)) Failure → C → Type 0) (old new : C × K)
+      {fault : _} → StopsServing is_failed Takes accepts count old new fault
+      → HasTakenSome is_failed Takes count old new.1
+  some_of_end accepts old new (inl none) =
+      subst (λ s. HasTakenSome is_failed Takes count old s.1) (sym none.1) (some_of_none old)
+  some_of_end accepts old new (inr (inl stopped)) =
+      let taken = taken_of_stopped accepts old new stopped.1 in
+      record { last = taken.0; taken = inl taken.1 }
+  some_of_end accepts old new (inr (inr failed)) = record { last = new.0; taken = inr failed.1 }
 
   -- however answering ended
-  pub some_of_answered : {T : Type 0} (old new : C × K) (r : Result T TaskFault)
-      → OnOk r (TakesEach (TakesWell is_failed Takes) count old new)
-      → IfErr r (StopsServing is_failed Takes count old new.1)
+  pub some_of_answered : {R W T : Type 0}
+      (accepts : C → Result (Option (Connection R W)) Failure → C → Type 0) (old new : C × K)
+      (r : Result T TaskFault) → OnOk r (TakesEach (TakesWell is_failed Takes) count old new)
+      → IfErr r (StopsServing is_failed Takes accepts count old new)
       → HasTakenSome is_failed Takes count old new.1
-  some_of_answered old new (Ok x) each stops = some_of_all old new each
-  some_of_answered old new (Err fault) each stops = some_of_end old new.1 stops
+  some_of_answered accepts old new (Ok x) each stops = some_of_all old new each
+  some_of_answered accepts old new (Err fault) each stops = some_of_end accepts old new stops

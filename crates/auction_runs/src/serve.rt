@@ -93,8 +93,8 @@ fn serve_all<C: Connections, K: Keep + Drop>(
         C.Output.Sink C.accepts C.ends (zone_of site.old) MOST)) count
         (connections.old, keep_of site.old) (connections.new, keep_of site.new)) }
     ensures stops { IfErr result (StopsServing K.is_failed (Takes K.Keep C.Input.Source
-        C.Output.Sink C.accepts C.ends (zone_of site.old) MOST) count
-        (connections.old, keep_of site.old) (keep_of site.new)) }
+        C.Output.Sink C.accepts C.ends (zone_of site.old) MOST) C.accepts count
+        (connections.old, keep_of site.old) (connections.new, keep_of site.new)) }
 {
     match serve_each(alloc, connections, count, site, MOST) {
         Ok(()) => Ok(()),
@@ -117,8 +117,8 @@ fn listen<W: Write, C: Connections, K: Keep + Drop>(
         C.Output.Sink C.accepts C.ends (zone_of site.old) MOST)) count
         (connections.old, keep_of site.old) (connections.new, keep_of site.new)) }
     ensures stops { IfErr result (StopsServing K.is_failed (Takes K.Keep C.Input.Source
-        C.Output.Sink C.accepts C.ends (zone_of site.old) MOST) count
-        (connections.old, keep_of site.old) (keep_of site.new)) }
+        C.Output.Sink C.accepts C.ends (zone_of site.old) MOST) C.accepts count
+        (connections.old, keep_of site.old) (connections.new, keep_of site.new)) }
 {
     write_listening(output)?;
     serve_all(alloc, connections, count, site)
@@ -142,8 +142,8 @@ pub fn serve_connections<W: Write, C: Connections, K: Keep + Drop>(
         C.Output.Sink C.accepts C.ends (zone_of site) MOST)) count
         (connections.old, keep_of site) (connections.new, result.1)) }
     ensures stops { IfErr result.0 (StopsServing K.is_failed (Takes K.Keep C.Input.Source
-        C.Output.Sink C.accepts C.ends (zone_of site) MOST) count
-        (connections.old, keep_of site) result.1) }
+        C.Output.Sink C.accepts C.ends (zone_of site) MOST) C.accepts count
+        (connections.old, keep_of site) (connections.new, result.1)) }
 {
     let mut site = site;
     let answered = listen(alloc, connections, count, output, &mut site);

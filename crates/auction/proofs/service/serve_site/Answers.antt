@@ -23,7 +23,8 @@ returns-in-Ok-clause-some g c = inr (record {
   came = c.in-Ok.connections;
   some = some_of_answered g.K.Keep.is_failed
       (Takes g.K.Keep g.C.Input.Source g.C.Output.Sink g.C.Connections.accepts g.C.Connections.ends
-      (zone_of c.args.site) 10000) c.args.asked.count (c.in-Ok.connections, keep_of c.args.site)
+      (zone_of c.args.site) 10000) c.args.asked.count g.C.Connections.accepts
+      (c.in-Ok.connections, keep_of c.args.site)
       (c.serve_connections.new.connections, c.serve_connections.result.1) c.serve_connections.result.0
       c.serve_connections.ensures.each c.serve_connections.ensures.stops;
 })

@@ -9,5 +9,6 @@ use Rattle.auction_runs.proofs.serve.serve_connections.Goals as goal
 pub returns-clause-stops : goal.returns-clause-stops
 returns-clause-stops g c = subst (λ k. IfErr c.listen-answered.result
     (StopsServing g.K.Keep.is_failed (Takes g.K.Keep g.C.Input.Source g.C.Output.Sink
-    g.C.Connections.accepts g.C.Connections.ends (zone_of c.args.site) 10000) c.args.count
-    (c.args.connections.now, keep_of c.args.site) k)) (sym c.end.ensures) c.listen-answered.ensures.stops
+    g.C.Connections.accepts g.C.Connections.ends (zone_of c.args.site) 10000)
+    g.C.Connections.accepts c.args.count (c.args.connections.now, keep_of c.args.site)
+    (c.listen-answered.new.connections, k))) (sym c.end.ensures) c.listen-answered.ensures.stops
