@@ -1,5 +1,5 @@
 -- What was written of a replay that ended before its end.
-use Rattle.std.proofs.Common.{◌≡◌, ℕ, ◌+◌, List, ◌++◌, length, take, Option, Some, None, Result, Ok, Err, arith, inl, inr, length-append, subst, sym}
+use Rattle.std.proofs.Common.{◌≡◌, ℕ, ◌+◌, true, List, ◌++◌, length, take, Option, Some, None, Result, Ok, Err, arith, inl, inr, length-append, subst, sym}
 use Rattle.std.specs.Prelude.{IfSome, OnErr}
 use Rattle.std.proofs.Math.Seq.{take-append-add, take-length}
 use Rattle.std.proofs.lemmas.List.{take-append-le}
@@ -97,21 +97,24 @@ module _ {K : Type 0} (k : keep.Ghosts K) (asked : Replay) (zone first : Zone)
   pub of_record : {T E : Type 0} (between after : Option (List ℕ)) (served : Served) (r : Result T E)
       → IfSome left (λ stream. HasServed (IsStep k.content k.is_failed k.is_honest k.may_leave zone)
       stream all_messages before between begun ended served)
-      → OnErr r (IsRecordedPart k between after ended)
+      → OnErr r ((asked.record ≡ true) × IsRecordedPart k between after ended)
       → OnErr r (IsReplayedPart k asked left now before after given)
-  of_record between after served r answered part = on_err_then r part (λ recorded. inr (record {
+  of_record between after served r answered part = on_err_then r part (λ why. inr (record {
     zone = zone;
     kept_zone = zone_is;
     begun = begun;
     set_up = set_up_so;
     ended = ended;
-    part = inr (inr (if_some_then left answered (λ stream so.
-        let unrecorded : IsUnrecorded k zone stream before after begun = record {
-          ended = ended;
-          between = between;
-          served = served;
-          answered = so;
-          recorded = recorded;
-        } in
-        unrecorded)));
+    part = inr (inr (
+      why.0,
+      if_some_then left answered (λ stream so.
+          let unrecorded : IsUnrecorded k zone stream before after begun = record {
+            ended = ended;
+            between = between;
+            served = served;
+            answered = so;
+            recorded = why.1;
+          } in
+          unrecorded),
+    ));
   }))

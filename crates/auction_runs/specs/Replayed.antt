@@ -83,15 +83,16 @@ pub record IsUnrecorded {K : Type 0} (k : keep.Ghosts K) (zone : Zone) (stream :
       stream all_messages before between begun ended served
   pub recorded : IsRecordedPart k between after ended
 
--- what was written where the source failed, the sink did in a reply, or the record wasn't written whole
-abbrev pub IsServedPart : {K : Type 0} → keep.Ghosts K → Zone → Option (List ℕ) → Option (List ℕ)
-    → Option (List ℕ) → Option (List ℕ) → K → K → Type 0
-IsServedPart k zone left now before after begun ended =
+-- what was written where the source failed, the sink did in a reply, or the record that was asked for
+-- wasn't written whole
+abbrev pub IsServedPart : {K : Type 0} → keep.Ghosts K → Replay → Zone → Option (List ℕ)
+    → Option (List ℕ) → Option (List ℕ) → Option (List ℕ) → K → K → Type 0
+IsServedPart k asked zone left now before after begun ended =
     HasRead (IsStep k.content k.is_failed k.is_honest k.may_leave zone) left now all_messages before
     after begun ended
     ⊎ IfSome left (λ stream. HasWritten (IsStep k.content k.is_failed k.is_honest k.may_leave zone)
     stream all_messages before after begun ended)
-    ⊎ IfSome left (λ stream. IsUnrecorded k zone stream before after begun)
+    ⊎ ((asked.record ≡ true) × IfSome left (λ stream. IsUnrecorded k zone stream before after begun))
 
 -- the keep that was given was set up, and some of it was written
 pub record HasReplayedPart {K : Type 0} (k : keep.Ghosts K) (asked : Replay)
@@ -102,7 +103,7 @@ pub record HasReplayedPart {K : Type 0} (k : keep.Ghosts K) (asked : Replay)
   pub set_up : IsSetUp (IsStep k.content k.is_failed k.is_honest k.may_leave zone) asked.preset given
       begun
   pub ended : K
-  pub part : IsServedPart k zone left now before after begun ended
+  pub part : IsServedPart k asked zone left now before after begun ended
 
 -- what is written of a replay that ended with a fault: nothing, or a part
 abbrev pub IsReplayedPart : {K : Type 0} → keep.Ghosts K → Replay → Option (List ℕ) → Option (List ℕ)

@@ -71,7 +71,7 @@ fn finish<W: Sink, K: Keep + Drop>(
     ensures recorded { OnOk result
         (IsRecorded K.content K.is_failed K.is_honest K.may_leave asked.record
         (W.taken sink.old) (W.taken sink.new) (keep_of site.old) (keep_of site.new)) }
-    ensures part { OnErr result (IsRecordedPart K.Keep
+    ensures part { OnErr result ((asked.record ≡ true) × IsRecordedPart K.Keep
         (W.taken sink.old) (W.taken sink.new) (keep_of site.old)) }
     ensures handed_on { OnOk result (IsFlushed W.handed_on W.taken sink.old sink.new) }
     ensures fault { IfErr result (IsOfReplay false (W.has_failed sink.new)) }
