@@ -55,33 +55,38 @@ err_after (Err e) s ended (inr (kept, gave, is)) q f g = g e (kept, is)
 
 -- a fault by how a keep's end went is one by what is left of the keep
 end_fault : {K L : Type 0} (is_ended is_left : K → L → Type 0) (keep : K) (left : L)
-    (ended : Result (Unit {0}) KeepFault) (fault : TaskFault) → IsOfEnded ended fault
-    → OnOk ended (is_ended keep left) → OnErr ended (is_left keep left)
-    → IsOfEnd is_ended is_left keep left fault
-end_fault is_ended is_left keep left (Ok u) fault (inl (kept, gave, is)) done failed = absurd cc
-end_fault is_ended is_left keep left (Err e) fault (inl (kept, gave, is)) done failed =
-    inl ((kept, is), failed)
-end_fault is_ended is_left keep left (Ok u) fault (inr (is, ok)) done failed = inr (is, done)
-end_fault is_ended is_left keep left (Err e) fault (inr (is, ok)) done failed = absurd cc
+    (before after : Option (List ℕ)) (ended : Result (Unit {0}) KeepFault) (fault : TaskFault)
+    → IsOfEnded ended before after fault → OnOk ended (is_ended keep left)
+    → OnErr ended (is_left keep left) → IsOfEnd is_ended is_left keep left before after fault
+end_fault is_ended is_left keep left before after (Ok u) fault (inl ((kept, gave, is), same)) done
+    failed = absurd cc
+end_fault is_ended is_left keep left before after (Err e) fault (inl ((kept, gave, is), same)) done
+    failed = inl ((kept, is), failed, same)
+end_fault is_ended is_left keep left before after (Ok u) fault (inr (is, ok)) done failed =
+    inr (is, done)
+end_fault is_ended is_left keep left before after (Err e) fault (inr (is, ok)) done failed = absurd cc
 
 pub end_faults : {T K L : Type 0} (is_ended is_left : K → L → Type 0) (keep : K) (left : L)
-    (r : Result T TaskFault) (ended : Result (Unit {0}) KeepFault) → IfErr r (IsOfEnded ended)
+    (before after : Option (List ℕ)) (r : Result T TaskFault) (ended : Result (Unit {0}) KeepFault)
+    → IfErr r (IsOfEnded ended before after)
     → OnOk ended (is_ended keep left) → OnErr ended (is_left keep left)
-    → IfErr r (IsOfEnd is_ended is_left keep left)
-end_faults is_ended is_left keep left (Ok x) ended why done failed = tt
-end_faults is_ended is_left keep left (Err e) ended why done failed =
-    end_fault is_ended is_left keep left ended e why done failed
+    → IfErr r (IsOfEnd is_ended is_left keep left before after)
+end_faults is_ended is_left keep left before after (Ok x) ended why done failed = tt
+end_faults is_ended is_left keep left before after (Err e) ended why done failed =
+    end_fault is_ended is_left keep left before after ended e why done failed
 
 -- and so is one that comes after another
 pub first_or_end_faults : {T K L : Type 0} (First : TaskFault → Type 0) (is_ended is_left : K → L → Type 0)
-    (keep : K) (left : L) (r : Result T TaskFault) (ended : Result (Unit {0}) KeepFault)
-    → IfErr r (λ fault. First fault ⊎ IsOfEnded ended fault)
+    (keep : K) (left : L) (before after : Option (List ℕ)) (r : Result T TaskFault)
+    (ended : Result (Unit {0}) KeepFault)
+    → IfErr r (λ fault. First fault ⊎ IsOfEnded ended before after fault)
     → OnOk ended (is_ended keep left) → OnErr ended (is_left keep left)
-    → IfErr r (λ fault. First fault ⊎ IsOfEnd is_ended is_left keep left fault)
-first_or_end_faults First is_ended is_left keep left (Ok x) ended why done failed = tt
-first_or_end_faults First is_ended is_left keep left (Err e) ended (inl first) done failed = inl first
-first_or_end_faults First is_ended is_left keep left (Err e) ended (inr why) done failed =
-    inr (end_fault is_ended is_left keep left ended e why done failed)
+    → IfErr r (λ fault. First fault ⊎ IsOfEnd is_ended is_left keep left before after fault)
+first_or_end_faults First is_ended is_left keep left before after (Ok x) ended why done failed = tt
+first_or_end_faults First is_ended is_left keep left before after (Err e) ended (inl first) done
+    failed = inl first
+first_or_end_faults First is_ended is_left keep left before after (Err e) ended (inr why) done failed =
+    inr (end_fault is_ended is_left keep left before after ended e why done failed)
 
 -- why no edition was told, by what setting the table came to
 pub untold : {K : Type 0} (content : K → Tables) (is_honest : K → Type 0)

@@ -1,5 +1,6 @@
 -- Which fault of the program stands for a fault of a layer below it.
-use Rattle.std.specs.Prelude.{◌≡◌, ◌⊎◌, Bool, true, Result, Err, IsOk}
+use Rattle.std.specs.Prelude.{◌≡◌, ◌⊎◌, ℕ, List, Bool, true, Option, Result, Err, IsOk}
+use Rattle.std.specs.Io.KnownBytes.{Keeps}
 use Rattle.auction_runs.specs.declared.fault.TaskFault.{TaskFault}
 use Rattle.auction_runs.specs.declared.fault.TaskFault.TheVariants.{Memory as NoMemory, Store as FailedStore, Damaged as DamagedFile, Read as FailedInput, Write as FailedOutput}
 use Rattle.auction_runs.specs.declared.fault.TaskFault.TheVariants as report
@@ -38,15 +39,19 @@ abbrev pub IsEndFault : Result (Unit {0}) KeepFault → TaskFault → Type 0
 IsEndFault ended fault =
     (kept : KeepFault) × (ended ≡ Err kept) × (fault ≡ fault_of_keep kept)
 
--- a fault after what a run did, by how its keep's end went: the end reported it, or the output failed
--- after it
-abbrev pub IsOfEnded : Result (Unit {0}) KeepFault → TaskFault → Type 0
-IsOfEnded ended fault = IsEndFault ended fault ⊎ ((fault ≡ FailedOutput) × IsOk ended)
+-- a fault after what a run did, by how its keep's end went: the end reported it and nothing was written,
+-- or the output failed after it
+abbrev pub IsOfEnded : Result (Unit {0}) KeepFault → Option (List ℕ) → Option (List ℕ) → TaskFault
+    → Type 0
+IsOfEnded ended before after fault =
+    (IsEndFault ended fault × Keeps before after) ⊎ ((fault ≡ FailedOutput) × IsOk ended)
 
 -- and by what is left of the keep
-abbrev pub IsOfEnd : {K L : Type 0} → (K → L → Type 0) → (K → L → Type 0) → K → L → TaskFault → Type 0
-IsOfEnd is_ended is_left keep left fault =
-    (IsOfKeep fault × is_left keep left) ⊎ ((fault ≡ FailedOutput) × is_ended keep left)
+abbrev pub IsOfEnd : {K L : Type 0} → (K → L → Type 0) → (K → L → Type 0) → K → L → Option (List ℕ)
+    → Option (List ℕ) → TaskFault → Type 0
+IsOfEnd is_ended is_left keep left before after fault =
+    (IsOfKeep fault × is_left keep left × Keeps before after)
+    ⊎ ((fault ≡ FailedOutput) × is_ended keep left)
 
 -- what stands for a fault of the words that name settings
 abbrev pub fault_of_settings : SettingsFault → TaskFault

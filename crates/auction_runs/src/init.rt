@@ -26,7 +26,8 @@ fn write_created<W: Write>(output: &mut W) -> Result<(), TaskFault>
 fn finish<W: Write>(output: &mut W, ended: Result<(), KeepFault>) -> Result<(), TaskFault>
     ensures report { OnOk result (Appends (W.contents output.old) (W.contents output.new) created) }
     ensures ended { OnOk result (IsOk ended) }
-    ensures fault { IfErr result (IsOfEnded ended) }
+    ensures fault { IfErr result
+        (IsOfEnded ended (W.contents output.old) (W.contents output.new)) }
 {
     ended?;
     write_created(output)
@@ -42,8 +43,8 @@ pub fn init_run<W: Write, E: Sink, K: Ends>(
     ensures done { result.0 ≡ 0 → Appends (W.contents output.old) (W.contents output.new) created }
     ensures ended { result.0 ≡ 0 → K.is_ended keep result.1 }
     ensures over { IsOver K.is_ended K.is_left keep result.1 }
-    ensures reported { IsReported E.Sink (IsOfEnd K.is_ended K.is_left keep result.1)
-        errors.old errors.new result.0 }
+    ensures reported { IsReported E.Sink (IsOfEnd K.is_ended K.is_left keep result.1
+        (W.contents output.old) (W.contents output.new)) errors.old errors.new result.0 }
     ensures within { result.0 ≤ 1 }
 {
     let (ended, left) = keep.end();

@@ -1,7 +1,7 @@
 //! `serve`: the replies to the messages of connections, one connection after the other.
 ghost use Rattle.auction_runs.specs.Lines.{IsReported, IsTold};
 ghost use Rattle.std.specs.Prelude.{◌≡◌, ◌≤◌, ◌⊎◌, Err, IfErr, IfOk, IsOk, OnOk, false};
-ghost use Rattle.std.specs.Io.KnownBytes.{Appends};
+ghost use Rattle.std.specs.Io.KnownBytes.{Appends, Keeps};
 ghost use Rattle.auction_runs.specs.Begun.{IsUnbegun};
 ghost use Rattle.auction_runs.specs.Faults.{IsOfEnd, IsOfEnded, IsOfKeep};
 ghost use Rattle.auction_runs.specs.Over.{IsOver};
@@ -162,7 +162,9 @@ fn finish<W: Write>(
     ensures answered { OnOk result (IsOk answered) }
     ensures ended { OnOk result (IsOk ended) }
     ensures first { IfErr answered (λ fault. result ≡ Err fault) }
-    ensures fault { IfErr result (λ fault. (answered ≡ Err fault) ⊎ IsOfEnded ended fault) }
+    ensures fault { IfErr result (λ fault.
+        ((answered ≡ Err fault) × Keeps (W.contents output.old) (W.contents output.new))
+        ⊎ IsOfEnded ended (W.contents output.old) (W.contents output.new) fault) }
 {
     outcome_after_end(answered, ended)?;
     write_served(output, count)
@@ -185,7 +187,9 @@ pub fn serve_run<W: Write, E: Sink, K: Ends>(
     ensures over { IsOver K.is_ended K.is_left keep result.1 }
     ensures first { IfErr answered (IsTold E.Sink errors.old errors.new) }
     ensures reported { IsReported E.Sink
-        (λ fault. (answered ≡ Err fault) ⊎ IsOfEnd K.is_ended K.is_left keep result.1 fault)
+        (λ fault. ((answered ≡ Err fault) × Keeps (W.contents output.old) (W.contents output.new))
+        ⊎ IsOfEnd K.is_ended K.is_left keep result.1
+        (W.contents output.old) (W.contents output.new) fault)
         errors.old errors.new result.0 }
     ensures within { result.0 ≤ 1 }
 {

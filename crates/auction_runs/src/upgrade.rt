@@ -44,7 +44,8 @@ fn finish<W: Write>(
     ensures report { OnOk result
         (Appends (W.contents output.old) (W.contents output.new) (upgraded_line upgraded)) }
     ensures ended { OnOk result (IsOk ended) }
-    ensures fault { IfErr result (IsOfEnded ended) }
+    ensures fault { IfErr result
+        (IsOfEnded ended (W.contents output.old) (W.contents output.new)) }
 {
     ended?;
     write_version(output, upgraded)
@@ -62,8 +63,8 @@ pub fn upgrade_run<W: Write, E: Sink, K: Ends>(
         → Appends (W.contents output.old) (W.contents output.new) (upgraded_line upgraded) }
     ensures ended { result.0 ≡ 0 → K.is_ended keep result.1 }
     ensures over { IsOver K.is_ended K.is_left keep result.1 }
-    ensures reported { IsReported E.Sink (IsOfEnd K.is_ended K.is_left keep result.1)
-        errors.old errors.new result.0 }
+    ensures reported { IsReported E.Sink (IsOfEnd K.is_ended K.is_left keep result.1
+        (W.contents output.old) (W.contents output.new)) errors.old errors.new result.0 }
     ensures within { result.0 ≤ 1 }
 {
     let (ended, left) = keep.end();

@@ -17,5 +17,6 @@ pub returns-clause-reported : goal.returns-clause-reported
 returns-clause-reported g c =
     let run = c.finish_run-status.ensures in
     reported_by g.E.Sink _ _ _ _ c.finish.result run.done run.fault run.quiet run.told
-    (end_faults g.K.Ends.is_ended g.K.Ends.is_left c.args.keep c.end-ended.result.1 c.finish.result
+    (end_faults g.K.Ends.is_ended g.K.Ends.is_left c.args.keep c.end-ended.result.1
+    (g.W.Write.contents c.args.output.now) (g.W.Write.contents c.finish.new.output) c.finish.result
     c.end-ended.result.0 c.finish.ensures.fault c.end-ended.ensures.ended c.end-ended.ensures.left)
