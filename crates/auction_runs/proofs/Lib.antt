@@ -6,5 +6,6 @@ pub mod Outcomes
 pub mod Replays
 pub mod Rows
 pub mod Served
+pub mod Tabled
 pub mod Unready
 pub mod Zones

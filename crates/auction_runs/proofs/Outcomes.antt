@@ -4,13 +4,9 @@ use Rattle.std.specs.Prelude.{IfErr, IfOk, IsErr, IsOk, OnErr, OnOk, Result}
 use Rattle.device.specs.declared.sink.Sink as sink
 use Rattle.site_serve.specs.Serving.{IsFlushed}
 use Rattle.house_rows.specs.declared.fault.KeepFault.{KeepFault}
-use Rattle.auction_runs.specs.Faults.{IsEndFault, IsOfEnd, IsOfEnded, IsOfKeep}
-use Rattle.house_rows.specs.declared.command.Command.{Command}
-use Rattle.house_rows.specs.Tables.{Tables}
+use Rattle.auction_runs.specs.Faults.{IsOfEnd, IsOfEnded}
 use Rattle.auction_runs.specs.Lines.{IsReported, IsTold, TellsFinding}
-use Rattle.auction_runs.specs.Tabled.{HasSet, IsUndone, IsUntold}
 use Rattle.auction_runs.specs.declared.fault.TaskFault.{TaskFault}
-use Rattle.auction_runs.specs.declared.fault.TaskFault.TheVariants.{Write}
 
 -- what a run promises where it goes well, it has done where it went well
 pub where_done : {T E P : Type 0} (r : Result T E) → IsOk r → OnOk r P → P
@@ -42,16 +38,6 @@ pub both_of : {T U E F : Type 0} {P Q : T → Type 0} (s : Result T E) (r : Resu
     → OnOk r (IsOk s) → OnOk r (IfOk s P) → IfOk s Q → (x : T) × P x × Q x
 both_of s (Ok u) done ok p q = both s ok p q
 both_of s (Err e) done ok p q = absurd cc
-
--- what is so of the fault of a run whose keep was ended
-pub err_after : {T : Type 0} {P Q : TaskFault → Type 0} (r s : Result T TaskFault)
-    (ended : Result (Unit {0}) KeepFault)
-    → IfErr r (λ fault. (s ≡ Err fault) ⊎ IsEndFault ended fault) → IfErr s Q
-    → ((fault : TaskFault) → Q fault → P fault) → ((fault : TaskFault) → IsOfKeep fault → P fault)
-    → IfErr r P
-err_after (Ok x) s ended why q f g = tt
-err_after {Q = Q} (Err e) s ended (inl is) q f g = f e (subst (λ v. IfErr v Q) is q)
-err_after (Err e) s ended (inr (kept, gave, is)) q f g = g e (kept, is)
 
 -- a fault by how a keep's end went is one by what is left of the keep
 end_fault : {K L : Type 0} (is_ended is_left : K → L → Type 0) (keep : K) (left : L)
@@ -87,22 +73,6 @@ first_or_end_faults First is_ended is_left keep left before after (Err e) ended 
     failed = inl first
 first_or_end_faults First is_ended is_left keep left before after (Err e) ended (inr why) done failed =
     inr (end_fault is_ended is_left keep left before after ended e why done failed)
-
--- why no edition was told, by what setting the table came to
-pub untold : {K : Type 0} (content : K → Tables) (is_honest : K → Type 0)
-    (may_leave : K → Tables → Type 0) (is_ended : K → Type 0) (moment : ℕ) (command : Command)
-    (given : K) (set : Result ℕ TaskFault) (r : Result (Unit {0}) TaskFault)
-    → IfErr r (λ fault. (set ≡ Err fault) ⊎ ((fault ≡ Write) × IsOk set))
-    → IfErr set (λ fault. (left : K) × IsUndone content is_honest moment command given left fault)
-    → IfOk set (HasSet content is_honest may_leave is_ended moment command given)
-    → IfErr r (IsUntold content is_honest may_leave is_ended moment command given)
-untold content is_honest may_leave is_ended moment command given set (Ok u) why undone has = tt
-untold {K = K} content is_honest may_leave is_ended moment command given set (Err e) (inl is) undone has =
-    inl (subst (λ v. IfErr v (λ fault. (left : K) × IsUndone content is_honest moment command given left fault)) is undone)
-untold content is_honest may_leave is_ended moment command given (Ok x) (Err e) (inr (is, ok)) undone has =
-    inr (is, (x, has))
-untold content is_honest may_leave is_ended moment command given (Err f) (Err e) (inr (is, ok)) undone has =
-    absurd cc
 
 -- what is so of a result, whichever it is
 pub either_end : {T E P Q : Type 0} (r : Result T E) → OnOk r P → OnErr r Q → P ⊎ Q

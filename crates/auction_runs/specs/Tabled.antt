@@ -1,19 +1,26 @@
 -- A band table was set in a house, or why it wasn't.
-use Rattle.std.specs.Prelude.{◌≡◌, ◌⊎◌, ℕ, List, ◌∷◌, Option, Some, None}
-use Rattle.std.specs.Io.KnownBytes.{Appends}
+use Rattle.std.specs.Prelude.{◌≡◌, ◌≢◌, ◌↔◌, ◌⊎◌, ℕ, List, ◌∷◌, Bool, true, Option, Some, None}
+use Rattle.std.specs.Io.KnownBytes.{Appends, Keeps}
 use Rattle.house_rows.specs.declared.command.Command.{Command}
+use Rattle.house_rows.specs.declared.command.Command.TheVariants.{SetBands}
 use Rattle.house_rows.specs.declared.refusal.Refusal.{Refusal}
 use Rattle.house_rows.specs.declared.settings.Settings.{Settings}
 use Rattle.house_rows.specs.Editions.{newest_in}
 use Rattle.house_rows.specs.History.{History}
+use Rattle.house_rows.specs.Keeping.{AreSound}
 use Rattle.house_rows.specs.Runs.{entry}
 use Rattle.house_rows.specs.Tables.{Tables, band_tables, tables_of}
 use Rattle.house_rows.specs.Verdict.{IsHistory, verdict}
+use Rattle.steps.specs.Table.{Band}
 use Rattle.auction_runs.specs.Faults.{IsOfKeep}
 use Rattle.auction_runs.specs.Over.{IsOver}
 use Rattle.auction_runs.specs.Printed.{edition_line}
 use Rattle.auction_runs.specs.declared.fault.TaskFault.{TaskFault}
-use Rattle.auction_runs.specs.declared.fault.TaskFault.TheVariants.{Refused, Write}
+use Rattle.auction_runs.specs.declared.fault.TaskFault.TheVariants.{Damaged, Refused, Store, Write}
+
+-- a command sets a band table
+abbrev pub IsTable : Command → Type 0
+IsTable command = (bands : List Band) × (command ≡ SetBands bands)
 
 -- the house's command was accepted over the tables of a history, the new tables are those with it,
 -- and this is its edition. No crash takes it back
@@ -35,14 +42,16 @@ pub record IsRefused {K : Type 0} (content : K → Tables) (is_honest : K → Ty
       → content old ≡ tables_of settings h → verdict settings h moment 0 command ≡ Some refusal
   pub same : is_honest new → content new ≡ content old
 
--- why a keep didn't do what the command asks for: it reported the fault itself, or the command is
--- refused
-abbrev pub IsUndone : {K : Type 0} → (K → Tables) → (K → Type 0) → ℕ → Command → K → K → TaskFault
-    → Type 0
-IsUndone content is_honest moment command old new fault =
-    IsOfKeep fault ⊎ IsRefused content is_honest moment command old new fault
+-- why a keep didn't do what the command asks for, or didn't tell the edition: it reported the fault
+-- itself, Store exactly where it has failed, and Damaged only over tables that aren't sound; or the
+-- command is refused
+pub record IsUndone {K : Type 0} (content : K → Tables) (is_failed : K → Bool) (is_honest : K → Type 0)
+    (moment : ℕ) (command : Command) (old new : K) (fault : TaskFault) : Type 0 where
+  pub cause : IsOfKeep fault ⊎ IsRefused content is_honest moment command old new fault
+  pub store : (fault ≡ Store) ↔ (is_failed new ≡ true)
+  pub damaged : is_honest new → AreSound (content old) → fault ≢ Damaged
 
--- the keep that was given took the command as this edition, and was ended
+-- the keep that was given took the command as this edition, and its end left what is named
 pub record HasSet {K : Type 0} (content : K → Tables) (is_honest : K → Type 0)
     (may_leave : K → Tables → Type 0) (is_ended : K → Type 0) (moment : ℕ) (command : Command)
     (given : K) (edition : ℕ) : Type 0 where
@@ -50,12 +59,24 @@ pub record HasSet {K : Type 0} (content : K → Tables) (is_honest : K → Type 
   pub tabled : is_honest left → IsTabled content may_leave moment command given left edition
   pub ended : is_ended left
 
--- why no edition was told: the keep that was given didn't take the command, or it took it and was
+-- why the command was not done and its keep ended well: the keep that was given didn't do it, and was
+-- ended however that went; or it took the command, and the fault is one that its end reported
+abbrev pub IsUntabled : {K : Type 0} → (K → Tables) → (K → Bool) → (K → Type 0) → (K → Tables → Type 0)
+    → (K → Type 0) → (K → Type 0) → ℕ → Command → K → TaskFault → Type 0
+IsUntabled {K} content is_failed is_honest may_leave is_ended is_left moment command given fault =
+    ((last : K) × IsUndone content is_failed is_honest moment command given last fault
+    × (is_ended last ⊎ is_left last))
+    ⊎ (IsOfKeep fault × ((edition : ℕ)
+    × HasSet content is_honest may_leave is_left moment command given edition))
+
+-- why no edition was told: the command was not done, and nothing was written; or it was and the keep was
 -- ended, and the output failed
-abbrev pub IsUntold : {K : Type 0} → (K → Tables) → (K → Type 0) → (K → Tables → Type 0)
-    → (K → Type 0) → ℕ → Command → K → TaskFault → Type 0
-IsUntold {K} content is_honest may_leave is_ended moment command given fault =
-    ((left : K) × IsUndone content is_honest moment command given left fault)
+abbrev pub IsUntold : {K : Type 0} → (K → Tables) → (K → Bool) → (K → Type 0) → (K → Tables → Type 0)
+    → (K → Type 0) → (K → Type 0) → ℕ → Command → Option (List ℕ) → Option (List ℕ) → K → TaskFault
+    → Type 0
+IsUntold content is_failed is_honest may_leave is_ended is_left moment command before after given fault =
+    (IsUntabled content is_failed is_honest may_leave is_ended is_left moment command given fault
+    × Keeps before after)
     ⊎ ((fault ≡ Write) × ((edition : ℕ)
     × HasSet content is_honest may_leave is_ended moment command given edition))
 

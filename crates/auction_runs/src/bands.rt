@@ -1,10 +1,10 @@
 //! `bands`: a band table that is set in the house in a file.
 ghost use Rattle.auction_runs.specs.Lines.{IsReported};
 ghost use Rattle.std.specs.Prelude.{◌≡◌, ◌≤◌, ◌⊎◌, Err, IfErr, IfOk, IsOk, OnOk};
-ghost use Rattle.std.specs.Io.KnownBytes.{Appends};
-ghost use Rattle.house_rows.specs.declared.command.Command.TheVariants as command;
+ghost use Rattle.std.specs.Io.KnownBytes.{Appends, Keeps};
+ghost use Rattle.house_rows.specs.declared.command.Command.TheVariants.{SetBands};
 ghost use Rattle.auction_runs.specs.Printed.{edition_line};
-ghost use Rattle.auction_runs.specs.Tabled.{HasSet, HasTabled, IsTabled, IsTabledOver, IsUndone, IsUntold, MayTable};
+ghost use Rattle.auction_runs.specs.Tabled.{HasSet, HasTabled, IsTable, IsTabled, IsTabledOver, IsUndone, IsUntabled, IsUntold, MayTable};
 
 use crate::ended::outcome_after_end;
 use crate::fault::{TaskFault, finish_run};
@@ -16,12 +16,14 @@ use std::io::Write;
 // The number of the house as a caller.
 const HOUSE: u64 = 0;
 
-// Has the house do what a command asks for at a moment, and gives the newest edition after it.
+// Has the house set the table that a command asks for at a moment, and gives the newest edition
+// after it.
 fn set_bands<K: Keep>(keep: &mut K, moment: u64, command: &Command) -> Result<u32, TaskFault>
+    requires table { IsTable command.now }
     ensures done { K.is_honest keep.new → IfOk result
         (IsTabled K.content K.may_leave moment command.now keep.old keep.new) }
     ensures fault { IfErr result
-        (IsUndone K.content K.is_honest moment command.now keep.old keep.new) }
+        (IsUndone K.content K.is_failed K.is_honest moment command.now keep.old keep.new) }
     ensures may { MayTable K.content K.is_honest K.may_leave moment command.now keep.old keep.new }
 {
     // The fault is matched, since a `?` on what holds a change isn't covered by the borrow check.
@@ -53,10 +55,12 @@ fn set<K: Keep + Ends>(
     moment: u64,
     command: &Command,
 ) -> (Result<u32, TaskFault>, K::Left)
+    requires table { IsTable command.now }
     ensures set { IfOk result.0 (HasSet K.content K.is_honest K.may_leave
         (λ last. K.is_ended last result.1) moment command.now keep) }
-    ensures fault { IfErr result.0 (λ fault. (left : K)
-        × IsUndone K.content K.is_honest moment command.now keep left fault) }
+    ensures fault { IfErr result.0 (IsUntabled K.content K.is_failed K.is_honest K.may_leave
+        (λ last. K.is_ended last result.1) (λ last. K.is_left last result.1) moment command.now
+        keep) }
     ensures over { IsTabledOver K.content K.is_honest K.may_leave K.is_ended K.is_left moment
         command.now keep result.1 }
 {
@@ -70,7 +74,8 @@ fn write_outcome<W: Write>(output: &mut W, set: Result<u32, TaskFault>) -> Resul
     ensures report { OnOk result (IfOk set (λ edition.
         Appends (W.contents output.old) (W.contents output.new) (edition_line edition))) }
     ensures set { OnOk result (IsOk set) }
-    ensures fault { IfErr result (λ fault. (set ≡ Err fault)
+    ensures fault { IfErr result (λ fault.
+        ((set ≡ Err fault) × Keeps (W.contents output.old) (W.contents output.new))
         ⊎ ((fault ≡ TaskFault.Write) × IsOk set)) }
 {
     write_edition(output, set?)
@@ -87,13 +92,14 @@ pub fn bands_run<W: Write, E: Sink, K: Keep + Ends>(
     moment: u64,
 ) -> (u8, K::Left)
     ensures set { result.0 ≡ 0 → HasTabled K.content K.is_honest K.may_leave
-        (λ last. K.is_ended last result.1) moment (command.SetBands bands)
+        (λ last. K.is_ended last result.1) moment (SetBands bands)
         (W.contents output.old) (W.contents output.new) keep }
     ensures over { IsTabledOver K.content K.is_honest K.may_leave K.is_ended K.is_left moment
-        (command.SetBands bands) keep result.1 }
+        (SetBands bands) keep result.1 }
     ensures reported { IsReported E.Sink
-        (IsUntold K.content K.is_honest K.may_leave (λ last. K.is_ended last result.1) moment
-        (command.SetBands bands) keep)
+        (IsUntold K.content K.is_failed K.is_honest K.may_leave
+        (λ last. K.is_ended last result.1) (λ last. K.is_left last result.1) moment
+        (SetBands bands) (W.contents output.old) (W.contents output.new) keep)
         errors.old errors.new result.0 }
     ensures within { result.0 ≤ 1 }
 {

@@ -1,0 +1,184 @@
+-- Why a band table was not set, or not told of.
+use Rattle.std.proofs.Common.{◌≡◌, ◌⊎◌, ◌↔◌, ◌∙◌, ℕ, List, Bool, true, false, Option, Result, Ok, Err, inl, inr, refl, subst, sym}
+use Rattle.std.specs.Prelude.{IfErr, IfOk, IsErr, IsErrAnd, IsErrOf, IsOk, OnErr, OnOk}
+use Rattle.std.specs.Io.KnownBytes.{Keeps}
+use Rattle.steps.specs.Table.{Band}
+use Rattle.house.specs.Decided.{IfAccepted, IsDecided}
+use Rattle.house.specs.Decides.{Decides}
+use Rattle.house.specs.Own.{IsOf, command_of}
+use Rattle.house_rows.specs.Asks.{ChangeFits, IsFree}
+use Rattle.house_rows.specs.Keeping.{AreSound}
+use Rattle.house_rows.specs.Making.{ChangeRowsFit, IsApplied}
+use Rattle.house_rows.specs.Tables.{Tables}
+use Rattle.house_rows.specs.Taken.{IsUndamaged}
+use Rattle.house_rows.specs.declared.change.Change.{Change}
+use Rattle.house_rows.specs.declared.change.Change.TheVariants as change
+use Rattle.house_rows.specs.declared.command.Command.{Command}
+use Rattle.house_rows.specs.declared.command.Command.TheVariants.{SetBands}
+use Rattle.house_rows.specs.declared.fault.KeepFault.{KeepFault}
+use Rattle.house_rows.specs.declared.fault.KeepFault.TheVariants as kept
+use Rattle.house_rows.specs.declared.keep.Keep as keep
+use Rattle.house_rows.specs.declared.refusal.Refusal.{Refusal}
+use Rattle.auction_runs.proofs.Outcomes.{either_end}
+use Rattle.auction_runs.specs.Faults.{IsEndFault, fault_of_keep}
+use Rattle.auction_runs.specs.Tabled.{HasSet, IsTable, IsTabled, IsUndone, IsUntabled, IsUntold}
+use Rattle.auction_runs.specs.declared.fault.TaskFault.{TaskFault}
+use Rattle.auction_runs.specs.declared.fault.TaskFault.TheVariants.{Refused, Write}
+
+-- a keep that answered has not failed
+works : {A : Type 0} (r : Result A KeepFault) (is_failed : Bool) (x : A) → r ≡ Ok x
+    → (IsErrOf r kept.Store ↔ (is_failed ≡ true)) → is_failed ≡ false
+works r true x gave store = let other = store.1 refl in absurd cc
+works r false x gave store = refl
+
+-- a fault that a keep reported
+pub reported : {K A : Type 0} (content : K → Tables) (is_failed : K → Bool) (is_honest : K → Type 0)
+    (moment : ℕ) (command : Command) (old new : K) (r : Result A KeepFault) (f : KeepFault)
+    → r ≡ Err f → (IsErrOf r kept.Store ↔ (is_failed new ≡ true))
+    → (is_honest new → AreSound (content old) → IsUndamaged r)
+    → IsUndone content is_failed is_honest moment command old new (fault_of_keep f)
+reported content is_failed is_honest moment command old new r kept.Memory gave store sound = record {
+  cause = inl (kept.Memory, refl);
+  store = (λ e. absurd cc, λ failed. let other = store.1 failed in absurd cc);
+  damaged = λ honest is e. absurd cc;
+}
+reported content is_failed is_honest moment command old new r kept.Store gave store sound = record {
+  cause = inl (kept.Store, refl);
+  store = (λ e. store.0 gave, λ failed. refl);
+  damaged = λ honest is e. absurd cc;
+}
+reported content is_failed is_honest moment command old new r kept.Damaged gave store sound = record {
+  cause = inl (kept.Damaged, refl);
+  store = (λ e. absurd cc, λ failed. let other = store.1 failed in absurd cc);
+  damaged = λ honest is e. sound honest is gave;
+}
+
+-- and is handed on
+pub handed_on : {K A T : Type 0} (content : K → Tables) (is_failed : K → Bool)
+    (is_honest : K → Type 0) (moment : ℕ) (command : Command) (old new : K) (r : Result A KeepFault)
+    (f : KeepFault) (result : Result T TaskFault)
+    → IsErr result × IsErrAnd result (λ report. report ≡ fault_of_keep f)
+    → r ≡ Err f → (IsErrOf r kept.Store ↔ (is_failed new ≡ true))
+    → (is_honest new → AreSound (content old) → IsUndamaged r)
+    → IfErr result (IsUndone content is_failed is_honest moment command old new)
+handed_on content is_failed is_honest moment command old new r f (Ok x) gives gave store sound =
+    absurd gives.1
+handed_on content is_failed is_honest moment command old new r f (Err report) gives gave store sound =
+    subst (IsUndone content is_failed is_honest moment command old new) (sym gives.1)
+    (reported content is_failed is_honest moment command old new r f gave store sound)
+
+-- the house refused its command
+pub refused : {K : Type 0} (k : keep.Ghosts K) (moment : ℕ) (command : Command) (old new : K)
+    (decided : Result Change Refusal) (refusal : Refusal)
+    → Decides k old new (Ok decided) moment 0 command → decided ≡ Err refusal
+    → IsUndone k.content k.is_failed k.is_honest moment command old new (Refused refusal)
+refused k moment command old new decided refusal decides is =
+    let going = works (Ok decided) (k.is_failed new) decided refl decides.faults.store in
+    record {
+      cause = inr (record {
+        refusal = refusal;
+        report = refl;
+        by_history = λ honest settings h so e.
+            subst (λ v. IsDecided settings h moment 0 command v) is
+            (decides.decided honest settings h so e);
+        same = λ honest. decides.read.same honest going;
+      });
+      store = (λ e. absurd cc, λ failed. absurd cc);
+      damaged = λ honest sound e. absurd cc;
+    }
+
+-- the rows that setting a table takes are those of sound tables, and its key is free
+table_fits : (t : Tables) (made : Change) (bands : List Band) → command_of made ≡ SetBands bands
+    → AreSound t → ChangeRowsFit t made × IsFree t made
+table_fits t (change.Register moment name) bands is sound = absurd cc
+table_fits t (change.AddCategory moment name) bands is sound = absurd cc
+table_fits t (change.List moment item) bands is sound = absurd cc
+table_fits t (change.Bid moment item placed standing) bands is sound = absurd cc
+table_fits t (change.Buy moment item buyer price) bands is sound = absurd cc
+table_fits t (change.Close moment) bands is sound = absurd cc
+table_fits t (change.Settle moment item) bands is sound = absurd cc
+table_fits t (change.Watch member item) bands is sound = absurd cc
+table_fits t (change.Unwatch member item) bands is sound = absurd cc
+table_fits t (change.Ask item asker number text) bands is sound = absurd cc
+table_fits t (change.Answer moment item asker number text) bands is sound = absurd cc
+table_fits t (change.Feedback moment item from to rating text) bands is sound = absurd cc
+table_fits t (change.SetBands moment table) bands is sound = (sound.few_items, tt)
+
+-- over sound tables a table that was decided on is made without the fault Damaged
+pub made_sound : {K : Type 0} (k : keep.Ghosts K) (moment caller : ℕ) (command : Command)
+    (old mid new : K) (decided : Result (Result Change Refusal) KeepFault) (made : Change)
+    (r : Result (Unit {0}) KeepFault) → IsTable command
+    → Decides k old mid decided moment caller command → decided ≡ Ok (Ok made)
+    → IsApplied k.content k.is_failed k.is_honest k.may_leave mid new r made
+    → k.is_honest new → AreSound (k.content old) → IsUndamaged r
+made_sound k moment caller command old mid new decided made r table decides is applied honest sound =
+    let was = applied.honest honest in
+    let same : k.content mid ≡ k.content old =
+    decides.read.same was (works decided (k.is_failed mid) (Ok made) is decides.faults.store) in
+    let own = subst (λ v. IfAccepted v (IsOf moment caller command)) is (decides.own was) in
+    let fits = subst (λ t. ChangeFits t made) (sym same)
+    (subst (λ v. IfAccepted v (ChangeFits (k.content old))) is (decides.sound was sound)) in
+    let rows = table_fits (k.content mid) made table.0 (own.same_command ∙ table.1)
+    (subst AreSound (sym same) sound) in
+    applied.faults.damaged honest fits rows.0 rows.1
+
+-- why no table was set, by how the keep's end went
+pub untabled : {K L : Type 0} (content : K → Tables) (is_failed : K → Bool) (is_honest : K → Type 0)
+    (may_leave : K → Tables → Type 0) (is_ended is_left : K → L → Type 0) (moment : ℕ)
+    (command : Command) (given last : K) (left : L) (r s : Result ℕ TaskFault)
+    (ended : Result (Unit {0}) KeepFault)
+    → IfErr r (λ fault. (s ≡ Err fault) ⊎ IsEndFault ended fault)
+    → IfErr s (λ fault. r ≡ Err fault)
+    → IfErr s (IsUndone content is_failed is_honest moment command given last)
+    → (is_honest last → IfOk s (IsTabled content may_leave moment command given last))
+    → OnOk ended (is_ended last left) → OnErr ended (is_left last left)
+    → IfErr r (IsUntabled content is_failed is_honest may_leave (λ k. is_ended k left)
+    (λ k. is_left k left) moment command given)
+untabled content is_failed is_honest may_leave is_ended is_left moment command given last left (Ok x) s
+    ended why first undone tabled done failed = tt
+untabled content is_failed is_honest may_leave is_ended is_left moment command given last left (Err e)
+    (Err f) ended why first undone tabled done failed =
+    let same : f ≡ e = cc first in
+    inl (
+      last,
+      subst (IsUndone content is_failed is_honest moment command given last) same undone,
+      either_end ended done failed,
+    )
+untabled content is_failed is_honest may_leave is_ended is_left moment command given last left (Err e)
+    (Ok x) ended (inl is) first undone tabled done failed = absurd cc
+untabled content is_failed is_honest may_leave is_ended is_left moment command given last left (Err e)
+    (Ok x) ended (inr (reason, gave, is)) first undone tabled done failed =
+    inr (
+      (reason, is),
+      (
+        x,
+        record {
+          left = last;
+          tabled = tabled;
+          ended = subst (λ v. OnErr v (is_left last left)) gave failed;
+        },
+      ),
+    )
+
+-- why no edition was told, by what setting the table came to
+pub untold : {K : Type 0} (content : K → Tables) (is_failed : K → Bool) (is_honest : K → Type 0)
+    (may_leave : K → Tables → Type 0) (is_ended is_left : K → Type 0) (moment : ℕ) (command : Command)
+    (before after : Option (List ℕ)) (given : K) (set : Result ℕ TaskFault)
+    (r : Result (Unit {0}) TaskFault)
+    → IfErr r (λ fault. ((set ≡ Err fault) × Keeps before after) ⊎ ((fault ≡ Write) × IsOk set))
+    → IfErr set (IsUntabled content is_failed is_honest may_leave is_ended is_left moment command given)
+    → IfOk set (HasSet content is_honest may_leave is_ended moment command given)
+    → IfErr r (IsUntold content is_failed is_honest may_leave is_ended is_left moment command before after
+    given)
+untold content is_failed is_honest may_leave is_ended is_left moment command before after given set
+    (Ok u) why undone has = tt
+untold content is_failed is_honest may_leave is_ended is_left moment command before after given set
+    (Err e) (inl (is, same)) undone has = inl (
+      subst (λ v. IfErr v (IsUntabled content is_failed
+          is_honest may_leave is_ended is_left moment command given)) is undone,
+      same,
+    )
+untold content is_failed is_honest may_leave is_ended is_left moment command before after given (Ok x)
+    (Err e) (inr (is, ok)) undone has = inr (is, (x, has))
+untold content is_failed is_honest may_leave is_ended is_left moment command before after given (Err f)
+    (Err e) (inr (is, ok)) undone has = absurd cc
