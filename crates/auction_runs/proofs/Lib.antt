@@ -6,6 +6,7 @@ pub mod Outcomes
 pub mod Replays
 pub mod Rows
 pub mod Served
+pub mod Stated
 pub mod Tabled
 pub mod Unready
 pub mod Zones

@@ -1,11 +1,12 @@
 //! `statement`: what a member sold and bought in a period.
 ghost use Rattle.auction_runs.specs.Lines.{IsReported};
 ghost use Rattle.std.specs.Prelude.{◌≡◌, ◌≤◌, ◌⊎◌, Err, IfErr, IfOk, IsOk, OnOk};
-ghost use Rattle.std.specs.Io.KnownBytes.{Appends};
+ghost use Rattle.std.specs.Io.KnownBytes.{Appends, Keeps};
+ghost use Rattle.device.specs.Given.{AppendsBeginning};
 ghost use Rattle.settle.specs.Calendar.{day_text};
 ghost use Rattle.auction_runs.specs.Inquired.{IsUnasked};
 ghost use Rattle.auction_runs.specs.Over.{IsReadOver};
-ghost use Rattle.auction_runs.specs.Stated.{HasRead, HasStated, IsAccount, IsUnread, IsUnstated, IsUnwritten, account_text};
+ghost use Rattle.auction_runs.specs.Stated.{HasRead, HasStated, IsAccount, IsUnmade, IsUnread, IsUnstated, IsUnwritten, account_text};
 ghost use Rattle.house_rows.specs.Answers.{Reads};
 
 use crate::ended::outcome_after_end;
@@ -64,7 +65,9 @@ fn write_form<W: Sink>(
 ) -> Result<(), TaskFault>
     ensures written { OnOk result
         (Appends (W.taken sink.old) (W.taken sink.new) (account_text csv statement.now)) }
-    ensures fault { IfErr result IsUnwritten }
+    ensures part { AppendsBeginning (W.taken sink.old) (W.taken sink.new)
+        (account_text csv statement.now) }
+    ensures fault { IfErr result (IsUnwritten (W.has_failed sink.new)) }
 {
     if csv {
         Ok(statement.write_csv(alloc, sink)?)
@@ -82,8 +85,10 @@ fn write<W: Sink>(
 ) -> Result<(), TaskFault>
     ensures written { OnOk result
         (Appends (W.taken sink.old) (W.taken sink.new) (account_text csv statement.now)) }
+    ensures part { AppendsBeginning (W.taken sink.old) (W.taken sink.new)
+        (account_text csv statement.now) }
     ensures handed_on { OnOk result (W.handed_on sink.new ≡ W.taken sink.new) }
-    ensures fault { IfErr result IsUnwritten }
+    ensures fault { IfErr result (IsUnwritten (W.has_failed sink.new)) }
 {
     write_form(alloc, sink, statement, csv)?;
     sink.flush().map_err(|_| TaskFault::Write)
@@ -96,7 +101,7 @@ fn read_statement<K: Keep>(
     asked: Inquiry,
 ) -> Result<Statement, TaskFault>
     ensures shown { K.is_honest keep.new → IfOk result (IsAccount (K.content keep.old) asked) }
-    ensures fault { IfErr result (IsUnread K.content K.is_honest asked keep.old keep.new) }
+    ensures fault { IfErr result (IsUnread K.content K.is_failed K.is_honest asked keep.old keep.new) }
     ensures read { Reads K.Keep keep.old keep.new }
 {
     Ok(statement(alloc, keep, asked.member, asked.from, asked.to)?)
@@ -110,8 +115,8 @@ fn make_statement<K: Keep + Drop + Ends>(
 ) -> (Result<Statement, TaskFault>, K::Left)
     ensures made { IfOk result.0 (HasRead K.content K.is_failed K.is_honest K.may_leave
         (λ last. K.is_ended last result.1) asked keep) }
-    ensures fault { IfErr result.0 (λ fault. (left : K)
-        × IsUnread K.content K.is_honest asked keep left fault) }
+    ensures fault { IfErr result.0 (IsUnmade K.Keep (λ last. K.is_ended last result.1)
+        (λ last. K.is_left last result.1) asked keep) }
     ensures over { IsReadOver K.content K.is_failed K.is_honest K.may_leave K.is_ended K.is_left
         keep result.1 }
 {
@@ -132,7 +137,11 @@ fn write_made<W: Sink>(
         Appends (W.taken sink.old) (W.taken sink.new) (account_text csv statement))) }
     ensures handed_on { OnOk result (W.handed_on sink.new ≡ W.taken sink.new) }
     ensures made { OnOk result (IsOk made) }
-    ensures fault { IfErr result (λ fault. (made ≡ Err fault) ⊎ IsUnwritten fault) }
+    ensures fault { IfErr result (λ fault.
+        ((made ≡ Err fault) × Keeps (W.taken sink.old) (W.taken sink.new))
+        ⊎ (IsUnwritten (W.has_failed sink.new) fault × IsOk made)) }
+    ensures part { IfOk made (λ statement.
+        AppendsBeginning (W.taken sink.old) (W.taken sink.new) (account_text csv statement)) }
 {
     let statement = made?;
     write(alloc, sink, &statement, csv)
@@ -152,7 +161,9 @@ pub fn statement_run<W: Sink, E: Sink, K: Keep + Drop + Ends>(
     ensures handed_on { result.0 ≡ 0 → W.handed_on sink.new ≡ W.taken sink.new }
     ensures over { IsReadOver K.content K.is_failed K.is_honest K.may_leave K.is_ended K.is_left
         keep result.1 }
-    ensures reported { IsReported E.Sink (IsUnstated K.content K.is_honest asked keep)
+    ensures reported { IsReported E.Sink (IsUnstated K.Keep (λ last. K.is_ended last result.1)
+        (λ last. K.is_left last result.1) asked (W.has_failed sink.new)
+        (W.taken sink.old) (W.taken sink.new) keep)
         errors.old errors.new result.0 }
     ensures within { result.0 ≤ 1 }
 {
