@@ -1,6 +1,6 @@
 -- What a look at a surplus reports.
 use Rattle.std.specs.Prelude.{◌≡◌, ◌⊎◌, ℕ, List, length, Bool, true, false, Option, Result, Ok}
-use Rattle.std.specs.Io.KnownBytes.{Appends}
+use Rattle.std.specs.Io.KnownBytes.{Appends, Keeps}
 use Rattle.std.specs.List.{AllZip}
 use Rattle.house_rows.specs.declared.settings.Settings.{Settings}
 use Rattle.house_rows.specs.History.{History}
@@ -80,6 +80,8 @@ pub record HasShown {K S : Type 0} (houses : Houses) (content : K → Tables) (i
   pub tried : HasTried houses content is_failed is_honest bytes_of raise trial report
   pub shown : IsShown before after report covered
 
--- why nothing, or not all, was printed: nothing was found, or the output failed
-abbrev pub IsUnshown : {K S : Type 0} → (S → Option (List ℕ)) → Trial K S → TaskFault → Type 0
-IsUnshown bytes_of trial fault = (fault ≡ Write) ⊎ IsUntried bytes_of trial fault
+-- why nothing, or not all, was printed: the output failed, or nothing was found and nothing printed
+abbrev pub IsUnshown : {K S : Type 0} → (S → Option (List ℕ)) → Trial K S → Option (List ℕ)
+    → Option (List ℕ) → TaskFault → Type 0
+IsUnshown bytes_of trial before after fault =
+    (fault ≡ Write) ⊎ (IsUntried bytes_of trial fault × Keeps before after)
