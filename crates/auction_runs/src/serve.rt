@@ -1,6 +1,6 @@
 //! `serve`: the replies to the messages of connections, one connection after the other.
 ghost use Rattle.auction_runs.specs.Lines.{IsReported, IsTold};
-ghost use Rattle.std.specs.Prelude.{◌≡◌, ◌≤◌, ◌⊎◌, Err, IfErr, IfOk, IsOk, OnOk, false};
+ghost use Rattle.std.specs.Prelude.{◌≡◌, ◌≢◌, ◌≤◌, ◌⊎◌, Err, IfErr, IfOk, IsOk, OnOk, false};
 ghost use Rattle.std.specs.Io.KnownBytes.{Appends, Keeps};
 ghost use Rattle.auction_runs.specs.Begun.{IsUnbegun};
 ghost use Rattle.auction_runs.specs.Faults.{IsOfEnd, IsOfEnded, IsOfKeep};
@@ -111,8 +111,8 @@ fn listen<W: Write, C: Connections, K: Keep + Drop>(
     output: &mut W,
     site: &mut Site<K>,
 ) -> Result<(), TaskFault>
-    ensures report { OnOk result
-        (Appends (W.contents output.old) (W.contents output.new) listening) }
+    ensures report { result ≢ Err TaskFault.Write
+        → Appends (W.contents output.old) (W.contents output.new) listening }
     ensures each { OnOk result (TakesEach (TakesWell K.is_failed (Takes K.Keep C.Input.Source
         C.Output.Sink C.accepts C.ends (zone_of site.old) MOST)) count
         (connections.old, keep_of site.old) (connections.new, keep_of site.new)) }
@@ -136,8 +136,8 @@ pub fn serve_connections<W: Write, C: Connections, K: Keep + Drop>(
     output: &mut W,
     site: Site<K>,
 ) -> (Result<(), TaskFault>, K)
-    ensures report { OnOk result.0
-        (Appends (W.contents output.old) (W.contents output.new) listening) }
+    ensures report { result.0 ≢ Err TaskFault.Write
+        → Appends (W.contents output.old) (W.contents output.new) listening }
     ensures each { OnOk result.0 (TakesEach (TakesWell K.is_failed (Takes K.Keep C.Input.Source
         C.Output.Sink C.accepts C.ends (zone_of site) MOST)) count
         (connections.old, keep_of site) (connections.new, result.1)) }
