@@ -1,7 +1,7 @@
 -- What a head at the front says of the bytes.
 use Rattle.std.proofs.Common.{if◌then◌else◌, nat_lt, ◌≡◌, ℕ, ◌+◌, ◌<◌, ◌≤◌, List, [], ◌∷◌, ◌++◌, Bool, true, false, length, take, drop, Result, Ok, Err, refl, sym, ap, ◌∙◌, subst, arith, rules, inl, inr, append-nil, length-append, length-drop}
 use Rattle.std.proofs.lemmas.List.{drop-append-le, length-take-le, take-append-le}
-use Rattle.httparse.specs.Grammar.{IsRequestHead, RequestHead, print_blank, print_end, print_request, print_section, print_version}
+use Rattle.httparse.specs.Grammar.{HasNoRequest, IsRequestHead, RequestHead, print_blank, print_end, print_request, print_section, print_version}
 use Rattle.httparse.proofs.GrammarLemmas.{ReadsRequest-append, print_request-append}
 use Rattle.wire.specs.Fields.{Pair}
 use Rattle.wire.specs.Frame.{IsFront, IsMessageAt, alone, announced, fields_of, message_of, with_body}
@@ -81,7 +81,7 @@ fault_of held false f known = known
 
 pub ends_in_head : (bytes : List ℕ) → EndsInHead bytes → IsFront bytes (Err fault.Head)
 unfolding IsFront
-ends_in_head bytes ends = inr (ends.none, refl)
+ends_in_head bytes ends = inr ((λ h rest b. ends.none h rest b.reads), refl)
 
 pub ended_in_head : (held : List ℕ) (ended : Bool) → ended ≡ true → EndsInHead held → IsFaultOf held ended fault.Head
 ended_in_head held ended is ends = subst (λ e. IsFaultOf held e fault.Head) (sym is) (ends_in_head held ends)
@@ -133,8 +133,10 @@ message_stays stream more m rest (inl (h, after, b, e)) =
 message_stays stream more m rest (inr (none, e)) = cc
 
 -- no head is without bytes
-pub nothing_begins_head : NoHead []
-nothing_begins_head h after b = omega (arith, length_split [] h after b, some_head h b.reads.0)
+pub nothing_reads_request : HasNoRequest []
+nothing_reads_request h after (is, e) =
+    let split = ap length e ∙ length-append (print_request h) after in
+    omega (arith, split, some_head h is)
   where
     some_head : (h : RequestHead) → IsRequestHead h → 0 < length (print_request h)
     some_head h is =
@@ -150,6 +152,10 @@ nothing_begins_head h after b = omega (arith, length_split [] h after b, some_he
               (print_version h.minor ++ (print_end h.line_end ++ (print_section h.fields h.last ++ []))))),
           is.method.0,
         )
+
+-- nor is one within the limits
+nothing_begins_head : NoHead []
+nothing_begins_head h after b = nothing_reads_request h after b.reads
 
 -- nothing is at the front of nothing
 pub nothing_begins : (m : Message) (rest : List ℕ) → IsMessageAt [] m rest → ⊥

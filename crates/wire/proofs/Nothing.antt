@@ -5,7 +5,7 @@ use Rattle.std.proofs.lemmas.List.Elements.{All-cons, All-nil}
 use Rattle.std.proofs.lemmas.Str.{IsUtf8-from_ascii}
 use Rattle.httparse.specs.Grammar.{IsField, IsRequestHead, RequestHead, is_token_byte, is_uri_byte, lf, print_request}
 use Rattle.wire.specs.Front.{EndsInHead}
-use Rattle.wire.proofs.Fronts.{nothing_begins_head}
+use Rattle.wire.proofs.Fronts.{nothing_reads_request}
 
 -- one head: `G / HTTP/1.0`, and no field
 abbrev least : RequestHead
@@ -28,7 +28,7 @@ is_head = record {
 -- no bytes are the beginning of a head
 pub nothing_ends_in_head : EndsInHead []
 nothing_ends_in_head = record {
-  none = nothing_begins_head;
+  none = nothing_reads_request;
   few = omega arith;
   unfinished = inl (print_request least, least, (is_head, sym (append-nil (print_request least))));
 }

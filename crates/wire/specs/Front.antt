@@ -1,8 +1,8 @@
 -- What the bytes of a stream say so far.
 use Rattle.std.specs.Prelude.{◌≡◌, ℕ, ◌<◌, ◌≤◌, List, ◌++◌, length, drop, Result, Ok, Err}
-use Rattle.httparse.specs.Grammar.{RequestHead, MayBecomeRequest, print_request}
+use Rattle.httparse.specs.Grammar.{RequestHead, HasNoRequest, MayBecomeRequest, print_request}
 use Rattle.wire.specs.Frame.{IsFront, IsMessageAt, fields_of}
-use Rattle.wire.specs.Head.{BeginsHead, NeverHead, NoHead, most_bytes}
+use Rattle.wire.specs.Head.{BeginsHead, NeverHead, most_bytes}
 use Rattle.wire.specs.Known.{IsKnown}
 use Rattle.wire.specs.Message.{Message}
 use Rattle.wire.specs.declared.fault.WireFault.{WireFault}
@@ -13,9 +13,9 @@ use Rattle.wire.specs.declared.head.Head.{Head}
 use Rattle.wire.specs.declared.head.Head.TheVariants.{Found, More, Never}
 use Rattle.wire.specs.declared.head.Parts.{Parts}
 
--- the bytes have no head within the limits yet, and more bytes may make one of them
+-- the bytes have no head yet, of however many fields, and more bytes may make one of them
 pub record EndsInHead (bytes : List ℕ) : Type 0 where
-  pub none : NoHead bytes
+  pub none : HasNoRequest bytes
   pub few : length bytes < most_bytes
   pub unfinished : MayBecomeRequest bytes
 
