@@ -1,5 +1,5 @@
 -- Messages taken off a stream, one after another.
-use Rattle.std.proofs.Common.{◌≡◌, ℕ, ◌+◌, ◌-◌, ◌<◌, ◌≤◌, List, [], ◌∷◌, ◌++◌, ◌⊎◌, inl, inr, suc, Bool, true, false, length, refl, sym, ap, ◌∙◌, subst, map, arith, append-nil, append_assoc, length-append}
+use Rattle.std.proofs.Common.{◌≡◌, ◌≢◌, ℕ, ◌+◌, ◌-◌, ◌<◌, ◌≤◌, List, [], ◌∷◌, ◌++◌, ◌⊎◌, inl, inr, suc, Bool, true, false, length, refl, sym, ap, ◌∙◌, subst, map, arith, append-nil, append_assoc, length-append}
 use Rattle.std.specs.Prelude.{MatchBool}
 use Rattle.std.specs.List.{concat}
 use Rattle.wire.specs.Cut.{Cut, IsRest, Stop, closed, limit, clean, broken}
@@ -106,8 +106,10 @@ cut_last messages bytes held after m off here = by_test (ends m) refl
         let size = length-append messages (m ∷ []) in
         (limit, cut_of (messages ++ m ∷ []) bytes after (length messages + 1) limit (off_push messages bytes held after m off here on) (omega (arith, size)) (omega (arith, size)))
 
--- why nothing more is taken off bytes that end inside a message, or between two
-pub by_end : (held : List ℕ) (most : ℕ) → 0 < most → EndsInHead held ⊎ EndsInBody held → (stop : Stop) × IsRest held most stop
-by_end [] most more unfinished = (clean, (more, refl))
-by_end (b ∷ held) most more (inl ends) = (broken fault.Head, (more, (λ e. cc), ends_in_head (b ∷ held) ends))
-by_end (b ∷ held) most more (inr ends) = (broken fault.End, (more, (λ e. cc), ends.0))
+-- why nothing more is taken off bytes that end inside a message, or between two, where more may come
+pub by_end : (held : List ℕ) (most : ℕ) → 0 < most → EndsInHead held ⊎ EndsInBody held
+    → (stop : Stop) × IsRest held most stop × (stop ≢ closed) × (stop ≢ limit)
+by_end [] most more unfinished = (clean, (more, refl), (λ e. cc), (λ e. cc))
+by_end (b ∷ held) most more (inl ends) =
+    (broken fault.Head, (more, (λ e. cc), ends_in_head (b ∷ held) ends), (λ e. cc), (λ e. cc))
+by_end (b ∷ held) most more (inr ends) = (broken fault.End, (more, (λ e. cc), ends.0), (λ e. cc), (λ e. cc))

@@ -207,7 +207,7 @@ pub read_failed : {K : Type 0} (Step : Asked → List ℕ → K → K → Type 0
     → Keeps after last
     → HasRead Step left later most before last old new
 read_failed Step left now later before after last old new held count most run fewer unfinished kept flushed =
-    let (stop, is) = by_end held (most - length run.messages) (omega (arith, fewer, run.counted)) unfinished in
+    let (stop, is, on, more) = by_end held (most - length run.messages) (omega (arith, fewer, run.counted)) unfinished in
     record {
       read = run.read;
       took = Consumes-kept left now later run.read run.took kept;
@@ -215,6 +215,7 @@ read_failed Step left now later before after last old new held count most run fe
       rest = held;
       stop = stop;
       cut = cut_of run.messages run.read held most stop run.off (omega (arith, fewer, run.counted)) is;
+      waiting = (on, more);
       unfinished = unfinished;
       replies = run.replies;
       answered = run.answered;

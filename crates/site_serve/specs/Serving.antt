@@ -1,5 +1,5 @@
 -- What serving a stream does. Start here.
-use Rattle.std.specs.Prelude.{◌≡◌, ◌⊎◌, ℕ, ◌≤◌, List, [], ◌∷◌, ◌++◌, length, map, take, true, Option, None, Ok}
+use Rattle.std.specs.Prelude.{◌≡◌, ◌≢◌, ◌⊎◌, ℕ, ◌≤◌, List, [], ◌∷◌, ◌++◌, length, map, take, true, Option, None, Ok}
 use Rattle.std.specs.Io.KnownBytes.{Appends, Consumes}
 use Rattle.std.specs.List.{concat}
 use Rattle.site.specs.Runs.{InTurn}
@@ -56,8 +56,9 @@ pub record HasServed {K : Type 0}
   pub counted : served.messages ≡ length messages
   pub ending : served.ending ≡ ending_of stop
 
--- the reader failed: the messages of what had been read were answered, and what is left of it may
--- become one
+-- the reader failed in a wait for more: the messages of what had been read were answered, what is
+-- left of it may become one, and neither did the last of them end the connection nor were they as
+-- many as were asked for
 pub record HasRead {K : Type 0}
     (Step : Asked → List ℕ → K → K → Type 0) (left now : Option (List ℕ)) (most : ℕ)
     (before after : Option (List ℕ)) (old new : K) : Type 0 where
@@ -67,6 +68,7 @@ pub record HasRead {K : Type 0}
   pub rest : List ℕ
   pub stop : Stop
   pub cut : Cut read most messages rest stop
+  pub waiting : (stop ≢ closed) × (stop ≢ limit)
   pub unfinished : EndsInHead rest ⊎ EndsInBody rest
   pub replies : List (List ℕ)
   pub answered : InTurn Step (map heard messages) replies old new
