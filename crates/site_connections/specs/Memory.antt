@@ -31,9 +31,10 @@ GivesNext old result new = MatchResult result
     (λ _. (waiting_of old ≡ []) × (waiting_of new ≡ [])
     × (ended_of new ≡ ended_of old) × (is_whole new ≡ is_whole old))
 
--- one more was served; where memory was refused for it that is reported
+-- one more was served; where memory was refused for it, those before stay and that is reported
 abbrev pub KeepsEnded : MemoryConnections → Connection MemorySource MemorySink
     → Result Served ServeFault → MemoryConnections → Type 0
 KeepsEnded old connection report new = (waiting_of new ≡ waiting_of old)
-    × ((is_whole new ≡ false) ⊎ ((is_whole new ≡ is_whole old)
+    × (((is_whole new ≡ false) × (ended_of new ≡ ended_of old))
+    ⊎ ((is_whole new ≡ is_whole old)
     × (ended_of new ≡ ended_of old ++ record { connection = connection; report = report } ∷ [])))
