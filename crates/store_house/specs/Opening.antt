@@ -1,5 +1,5 @@
 -- What is read of a house as it is opened, and which houses are taken.
-use Rattle.std.specs.Prelude.{◌≡◌, ◌≢◌, ◌⊎◌, ◌≤◌, ◌<◌, ◌+◌, ◌^◌, ◌==◌, ℕ, List, [], IfSome, IsTrue, Option, Some, false, true, find, is_some, length, map, option_map}
+use Rattle.std.specs.Prelude.{◌≡◌, ◌≢◌, ◌⊎◌, ◌≤◌, ◌<◌, ◌+◌, ◌^◌, ◌==◌, ℕ, List, [], IfSome, IsTrue, Some, false, true, find, is_some, length, map}
 use Rattle.std.specs.List.{AllByRecursion}
 use Rattle.sqlite_trees.specs.declared.store.Store.{Ghosts}
 use Rattle.sqlite_trees.specs.Tree.{Trees}
@@ -23,7 +23,7 @@ use Rattle.store_rows.specs.Rows.{bands_in, categories_in, edition_rows_in, hous
 use Rattle.store_rows.specs.declared.reserve.ReserveRow.{ReserveRow}
 use Rattle.store_rows.specs.Commits.{IsBack}
 use Rattle.store_rows.specs.Schema.{first_schema, house_schema}
-use Rattle.store_rows.specs.Tables.{editions_in, house_row_in, settings_in, tables_in}
+use Rattle.store_rows.specs.Tables.{editions_in, house_row_in, settings_in, tables_in, version_in}
 
 -- members, categories and items have numbers from 1 to how many there are, which has 32 bits; that is so whatever reserves there are
 pub record AreNumbered (db : Trees) : Type 0 where
@@ -131,10 +131,6 @@ pub record IsSoundFirst (db : Database) : Type 0 where
 -- the tables of a house of version 1, in which no item has a reserve and no band table was set
 abbrev pub first_tables_in : Trees → Tables
 first_tables_in db = record (tables_in db) { items = items_by [] db; editions = [] }
-
--- the version of the tables, as the row of the house gives it
-abbrev pub version_in : Trees → Option ℕ
-version_in db = option_map (λ h. h.version) (find (λ h. h.id == 1) (houses_in db))
 
 -- A house of version 1 is made one of version 2: its row has the version, the three new tables have
 -- no row, the others have those that they had, and watches have an index by item.

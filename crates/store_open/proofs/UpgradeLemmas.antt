@@ -20,9 +20,9 @@ use Rattle.store_rows.specs.Rows.{band_in, house_in, houses_in, later_band_in, r
 use Rattle.store_rows.specs.ItemRows.{items_by}
 use Rattle.store_rows.specs.declared.reserve.ReserveRow.{ReserveRow}
 use Rattle.store_rows.specs.Schema.{first_schema, house_schema, house_by}
-use Rattle.store_rows.specs.Tables.{house_row_in, settings_in, tables_in}
+use Rattle.store_rows.specs.Tables.{house_row_in, settings_in, tables_in, version_in}
 use Rattle.store_rows.specs.declared.house.HouseRow.{HouseRow}
-use Rattle.store_house.specs.Opening.{AreNumbered, AreReserved, AreSet, Follows, FollowsOrGrows, IsFirstSetUp, IsReadable, IsSetUp, IsSoundFirst, IsSoundHouse, Upgraded, Upgrades, first_tables_in, version_in}
+use Rattle.store_house.specs.Opening.{AreNumbered, AreReserved, AreSet, Follows, FollowsOrGrows, IsFirstSetUp, IsReadable, IsSetUp, IsSoundFirst, IsSoundHouse, Upgraded, Upgrades, first_tables_in}
 
 -- ---- the two writes
 

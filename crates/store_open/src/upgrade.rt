@@ -10,12 +10,13 @@ ghost use Rattle.house_rows.specs.Fits.{IsMoment};
 ghost use Rattle.house_rows.specs.declared.fault.KeepFault.TheVariants.{Damaged, Store};
 ghost use Rattle.store_rows.specs.House.{IsFirstHouse, IsInside, Serves};
 ghost use Rattle.store_rows.specs.Frames.{Finds};
+ghost use Rattle.store_rows.specs.Tables.{version_in};
 ghost use Rattle.store_open.specs.Opened.{IsOpenedHouse};
 ghost use Rattle.store_house.specs.Named.{FollowsInOrder, FollowsOrGrowsInOrder, HoldsSound};
 ghost use Rattle.store_house.specs.Named.{HoldsSoundFirst, IsArranged, UpgradesHeld};
 ghost use Rattle.store_house.specs.Opening.{AreNumbered, Follows, FollowsOrGrows, HasEditions};
 ghost use Rattle.store_house.specs.Opening.{HasReserves, HasSettings, HaveNumbers, IsFirstSetUp};
-ghost use Rattle.store_house.specs.Opening.{IsSoundFirst, Upgraded, Upgrades, version_in};
+ghost use Rattle.store_house.specs.Opening.{IsSoundFirst, Upgraded, Upgrades};
 ghost use Rattle.store_house.specs.Over.{over_numbers};
 
 use crate::house::Opened;

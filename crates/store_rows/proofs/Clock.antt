@@ -7,7 +7,7 @@ use Rattle.house_rows.proofs.Put.{by_test}
 use Rattle.store_rows.specs.House.{SetsClock, with_clock}
 use Rattle.store_rows.specs.Rows.{houses_in}
 use Rattle.store_rows.specs.declared.house.HouseRow.{HouseRow}
-use Rattle.store_rows.specs.Tables.{IsNumbered, house_row_in, settings_in, tables_in}
+use Rattle.store_rows.specs.Tables.{IsNumbered, house_row_in, settings_in, tables_in, version_in}
 
 -- a numbered house with these tables
 pub record Holds (t : Tables) (db : Database) : Type 0 where
@@ -29,6 +29,16 @@ unwrapped moment (Some row) none h = refl
 still_some : (moment : ℕ) (found : Option HouseRow) → is_some found ≡ true → is_some (option_map (at_moment moment) found) ≡ true
 still_some moment None h = h
 still_some moment (Some row) h = h
+
+same_version : (moment : ℕ) (found : Option HouseRow) → option_map (λ (h : HouseRow). h.version) (option_map (at_moment moment) found) ≡ option_map (λ (h : HouseRow). h.version) found
+same_version moment None = refl
+same_version moment (Some row) = refl
+
+-- and of the same version
+pub clock_version : (moment : ℕ) (old new : Database) → SetsClock moment old new → version_in new.trees ≡ version_in old.trees
+clock_version moment old new w =
+    ap (λ rows. option_map (λ (h : HouseRow). h.version) (find (λ h. h.id == 1) rows)) w.houses
+    ∙ ap (option_map (λ (h : HouseRow). h.version)) (found_with_clock moment (houses_in old.trees)) ∙ same_version moment (find (λ h. h.id == 1) (houses_in old.trees))
 
 pub clock_set : (moment : ℕ) (old new : Database) → IsNumbered old.trees → SetsClock moment old new → Holds (record (tables_in old.trees) { clock = moment }) new
 unfolding house_row_in settings_in tables_in

@@ -1,14 +1,15 @@
 -- What a write makes of the tables in the order of their keys, and that the house stays numbered.
-use Rattle.std.proofs.Common.{◌≡◌, ◌≤◌, ◌<◌, ◌+◌, ℕ, eqb, false, List, [], ◌∷◌, ◌++◌, length, map, refl, ap, ◌∙◌, arith, length-append}
-use Rattle.std.specs.Prelude.{All}
+use Rattle.std.proofs.Common.{◌≡◌, ◌≤◌, ◌<◌, ◌+◌, ℕ, eqb, false, List, [], ◌∷◌, ◌++◌, find, length, map, refl, ap, ◌∙◌, arith, length-append}
+use Rattle.std.specs.Prelude.{All, ◌==◌, option_map}
 use Rattle.std.proofs.lemmas.List.Elements.{All-push, All-weaker}
 use Rattle.sqlite.specs.Effect.{Database}
 use Rattle.house_rows.specs.Tables.{Tables}
+use Rattle.store_rows.specs.declared.house.HouseRow.{HouseRow}
 use Rattle.store_rows.specs.House.{IsHouse, KeepsOthers, SetsClock}
-use Rattle.store_rows.specs.Rows.{reserve_in, reserves_in}
-use Rattle.store_rows.specs.Tables.{IsNumbered, editions_in, house_row_in, settings_in, tables_in}
+use Rattle.store_rows.specs.Rows.{house_in, reserve_in, reserves_in}
+use Rattle.store_rows.specs.Tables.{IsNumbered, editions_in, house_row_in, settings_in, tables_in, version_in}
 use Rattle.store_rows.specs.Sorted.{sorted_bids, sorted_feedback, sorted_questions, sorted_watches}
-use Rattle.store_rows.proofs.Clock.{clock_set}
+use Rattle.store_rows.proofs.Clock.{clock_set, clock_version}
 
 -- the house that a write leaves, and its tables
 pub record Makes (make : Tables → Tables) (old new : Database) : Type 0 where
@@ -52,6 +53,17 @@ sets_clock moment old new was w = let it = clock_set moment old new was w in rec
 -- a write of a table before theirs leaves them
 pub same_reserves : (tree : ℕ) (old new : Database) → tree < 23 → KeepsOthers tree old new → reserves_in new.trees ≡ reserves_in old.trees
 same_reserves tree old new under others = ap (map reserve_in) (others.1.1.1.1.1.1.1.1.1.0 (λ e. absurd (omega (arith, under, e))))
+
+-- ---- the version
+
+-- a write of a table after the house's leaves it
+pub same_version : (tree : ℕ) (old new : Database) → 0 < tree → KeepsOthers tree old new → version_in new.trees ≡ version_in old.trees
+same_version tree old new over others =
+    ap (λ rows. option_map (λ (h : HouseRow). h.version) (find (λ (h : HouseRow). h.id == 1) (map house_in rows))) (others.0 (λ e. absurd (omega (arith, over, e))))
+
+-- and so does the clock after it
+pub version_then_clock : (tree moment : ℕ) (old mid new : Database) → 0 < tree → KeepsOthers tree old mid → SetsClock moment mid new → version_in new.trees ≡ version_in old.trees
+version_then_clock tree moment old mid new over others clock = clock_version moment mid new clock ∙ same_version tree old mid over others
 
 -- ---- the editions
 
