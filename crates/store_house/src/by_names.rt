@@ -1,5 +1,5 @@
 //! A connection made anew, whose store shows the trees of a house by their names.
-ghost use Rattle.std.specs.Prelude.{◌≡◌, ℕ, List, true, false, IfErr, IfOk, IsErrOf, IsTrue, MatchOption, map};
+ghost use Rattle.std.specs.Prelude.{◌≡◌, ℕ, List, None, true, false, IfErr, IfOk, IsErrOf, IsTrue, MatchOption, map};
 ghost use Rattle.house_rows.specs.declared.fault.KeepFault.TheVariants.{Damaged};
 ghost use Rattle.sqlite.specs.Effect.{Database};
 ghost use Rattle.sqlite.specs.Held.{state};
@@ -117,6 +117,7 @@ fn arranged_anew<S: Alter + Drop>(
     ensures arranged { IfOk result (λ c. HasCleanDisk (state (over_numbers S.Store) c)
         → IsArranged (state S.Store conn).committed.trees (state (over_numbers S.Store) c).now.trees) }
     ensures mode { IfOk result (λ c. c.in_transaction ≡ false) }
+    ensures unlimited { IfOk result (λ c. c.step_limit ≡ None) }
     ensures follows { IfOk result (λ c. FollowsInOrder S.Store conn c.store) }
     ensures left { IfErr result (λ e. FollowsInOrder S.Store conn e.1) }
     ensures damaged { IfErr result (λ e. e.0 ≡ Damaged → IsClean (S.Store.view e.1.inner)
@@ -154,6 +155,7 @@ pub fn house_by_names<S: Alter + Drop>(
     ensures arranged { IfOk result (λ c. HasCleanDisk (state (over_numbers S.Store) c)
         → IsArranged (state S.Store conn).committed.trees (state (over_numbers S.Store) c).now.trees) }
     ensures mode { IfOk result (λ c. c.in_transaction ≡ false) }
+    ensures unlimited { IfOk result (λ c. c.step_limit ≡ None) }
     ensures follows { IfOk result (λ c. FollowsInOrder S.Store conn c.store) }
     ensures left { IfErr result (λ e. FollowsInOrder S.Store conn e.1) }
     ensures damaged { IfErr result (λ e. e.0 ≡ Damaged → IsClean (S.Store.view e.1.inner)
@@ -190,6 +192,7 @@ pub fn either_by_names<S: Alter + Drop>(
         → IsArranged (state S.Store conn).committed.trees
         (state (over_numbers S.Store) r.0).now.trees) }
     ensures mode { IfOk result (λ r. r.0.in_transaction ≡ false) }
+    ensures unlimited { IfOk result (λ r. r.0.step_limit ≡ None) }
     ensures follows { IfOk result (λ r. FollowsInOrder S.Store conn r.0.store) }
     ensures left { IfErr result (λ e. FollowsInOrder S.Store conn e.1) }
     ensures damaged { IfErr result (λ e. e.0 ≡ Damaged → IsClean (S.Store.view e.1.inner)

@@ -1,5 +1,5 @@
 -- What is known of a house that was opened.
-use Rattle.std.specs.Prelude.{◌≡◌, false}
+use Rattle.std.specs.Prelude.{◌≡◌, None, false}
 use Rattle.sqlite_trees.specs.Tree.{Trees}
 use Rattle.sqlite_trees.specs.declared.store.Store.{Ghosts}
 use Rattle.sqlite.specs.Held.{state}
@@ -13,8 +13,8 @@ use Rattle.store_rows.specs.Tables.{IsAtRest, house_row_in, tables_in}
 use Rattle.store_house.specs.Opening.{AreNumbered, AreSet}
 use Rattle.store_open.specs.declared.house.Opened.{Opened}
 
--- A numbered house is committed, no transaction is open, a crash leaves what is shown, and what was read of the house is what
--- it has; all but the mode and the range of the clock as far as the disk was honest.
+-- A numbered house is committed, no transaction is open, no limit on steps is set, a crash leaves what is shown, and what was
+-- read of the house is what it has; all but the mode, the limit and the range of the clock as far as the disk was honest.
 pub record IsOpenedHouse {S : Type 0} (g : Ghosts S) (o : Opened S) : Type 0 where
   pub rests : HasCleanDisk (state g o.conn) → IsAtRest (state g o.conn)
   pub editions : HasCleanDisk (state g o.conn)
@@ -33,3 +33,4 @@ pub record IsOpenedHouse {S : Type 0} (g : Ghosts S) (o : Opened S) : Type 0 whe
   pub only : HasCleanDisk (state g o.conn) → (db : Trees) → (state g o.conn).may_leave db
       → db ≡ (state g o.conn).now.trees
   pub mode : o.conn.in_transaction ≡ false
+  pub unlimited : o.conn.step_limit ≡ None

@@ -1,5 +1,5 @@
 //! A house is opened: whatever a connection holds is tested until it is a house.
-ghost use Rattle.std.specs.Prelude.{◌≡◌, ◌≤◌, false, map, IfErr, IfOk, IsErrOf, IsTrue};
+ghost use Rattle.std.specs.Prelude.{◌≡◌, ◌≤◌, None, false, map, IfErr, IfOk, IsErrOf, IsTrue};
 ghost use Rattle.sqlite.specs.Held.{state};
 ghost use Rattle.sqlite.specs.State.{HasCleanDisk};
 ghost use Rattle.sqlite_trees.specs.View.{IsClean};
@@ -120,6 +120,7 @@ pub fn opened_house<S: Alter + Drop>(
     requires rests { HasCleanDisk (state S.Store conn)
         → (state S.Store conn).now ≡ (state S.Store conn).committed }
     requires mode { conn.in_transaction ≡ false }
+    requires unlimited { conn.step_limit ≡ None }
     ensures opened { IfOk result (IsOpenedHouse S.Store) }
     ensures same { IfOk result (λ o. HasCleanDisk (state S.Store o.conn)
         → (state S.Store o.conn).now.trees ≡ (state S.Store conn).now.trees) }

@@ -2,7 +2,7 @@
 //!
 //! One transaction makes the tables and sets the version. The house is read within it, so what has to
 //! fit is known to fit before anything is committed.
-ghost use Rattle.std.specs.Prelude.{◌≡◌, ◌≢◌, true, false, Some, IfErr, IfOk, OnErr, OnOk, IsErrOf, IsTrue};
+ghost use Rattle.std.specs.Prelude.{◌≡◌, ◌≢◌, true, false, None, Some, IfErr, IfOk, OnErr, OnOk, IsErrOf, IsTrue};
 ghost use Rattle.sqlite.specs.Held.{state};
 ghost use Rattle.sqlite.specs.State.{HasCleanDisk, KeepsCommit, Shows, Survives};
 ghost use Rattle.sqlite_trees.specs.View.{IsClean};
@@ -135,6 +135,7 @@ fn upgrade_first<S: Alter + Drop>(
         → IsTrue (state S.Store conn).is_open × IsFirstHouse (state S.Store conn).now }
     requires rests { HasCleanDisk (state S.Store conn)
         → (state S.Store conn).now ≡ (state S.Store conn).committed }
+    requires unlimited { conn.step_limit ≡ None }
     ensures opened { IfOk result (IsOpenedHouse S.Store) }
     ensures upgraded { IfOk result (λ o. HasCleanDisk (state S.Store o.conn)
         → Upgrades (state S.Store conn).now.trees (state S.Store o.conn).now) }

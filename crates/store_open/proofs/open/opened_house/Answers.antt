@@ -29,6 +29,7 @@ returns-in-Ok g c =
         row = λ clean. (found clean).row;
         only = λ clean db left. g.met.S.Store.settled c.read_house.new.conn.store db (found clean).rests.is_open left ∙ ap (λ (d : Database). d.trees) (found clean).committed;
         mode = search rules;
+        unlimited = c.read_house.ensures.finds.read.crash.limit ∙ c.requires.unlimited;
       };
       same = λ clean. ap (λ (d : Database). d.trees) (found clean).same;
       follows = record {

@@ -29,6 +29,7 @@ returns-in-Ok g c =
         row = λ clean. (found clean).row;
         only = λ clean db left. g.met.S.Store.settled c.upgrade_read.new.conn.store db (read.rests clean).0 left ∙ ap (λ (d : Database). d.trees) (sym (read.rests clean).1);
         mode = read.mode;
+        unlimited = c.upgrade_read.ensures.crash.limit ∙ c.requires.unlimited;
       };
       upgraded = read.upgraded;
       clean = λ clean. omega (arith, c.upgrade_read.ensures.crash.clean, clean);
