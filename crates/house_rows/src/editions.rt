@@ -160,10 +160,12 @@ impl Editions {
         Ok(())
     }
 
-    /// Takes the newest back that was set.
+    /// Takes the newest back that was set. Where none was, all stays.
     pub fn unset(&mut self)
-        ensures { (later : List TheEdition) (newest : TheEdition) → self.old.later ≡ later ++ newest ∷ []
+        ensures value { (later : List TheEdition) (newest : TheEdition)
+            → self.old.later ≡ later ++ newest ∷ []
             → self.new ≡ record { settings = self.old.settings; later = later } }
+        ensures none { self.old.later ≡ [] → self.new ≡ self.old }
     {
         self.later.pop();
     }

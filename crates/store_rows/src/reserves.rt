@@ -70,10 +70,11 @@ impl Reserves {
         }
     }
 
-    /// Takes the last back.
+    /// Takes the last back, if there is one.
     pub fn remove_last(&mut self)
-        ensures { (before : List TheRow) (last : TheRow) → self.old ≡ before ++ last ∷ []
+        ensures value { (before : List TheRow) (last : TheRow) → self.old ≡ before ++ last ∷ []
             → self.new ≡ before }
+        ensures empty { self.old ≡ [] → self.new ≡ [] }
     {
         self.rows.pop();
     }
