@@ -1,5 +1,6 @@
 //! Keeps that can be ended.
-ghost use Rattle.std.specs.Prelude.{OnErr, OnOk};
+ghost use Rattle.std.specs.Prelude.{IsErrOf, OnErr, OnOk};
+ghost use Rattle.house_rows.specs.declared.fault.KeepFault.TheVariants.{Damaged};
 
 use crate::fault::KeepFault;
 
@@ -17,5 +18,6 @@ pub trait Ends: Sized {
     /// Ends the keep, and gives what is left of it. Whoever drops that closes the files.
     fn end(self) -> (Result<(), KeepFault>, Self::Left)
         ensures ended { OnOk result.0 (is_ended self result.1) }
-        ensures left { OnErr result.0 (is_left self result.1) };
+        ensures left { OnErr result.0 (is_left self result.1) }
+        ensures sound { ¬ (IsErrOf result.0 Damaged) };
 }
