@@ -1,5 +1,5 @@
 //! The store, and what it reads and writes.
-ghost use Rattle.std.specs.Prelude.{◌≡◌};
+ghost use Rattle.std.specs.Prelude.{◌≡◌, []};
 
 use crate::numbers::Numbers;
 use sqlite_trees::error::StoreError;
@@ -29,9 +29,10 @@ impl<S: Alter> Renumbered<S> {
         Renumbered { inner, numbers }
     }
 
-    /// The store as it is.
+    /// The store as it is: no tree has another number.
     pub fn plain(alloc: Global, inner: S) -> Renumbered<S>
         ensures inner { result.inner ≡ inner }
+        ensures numbers { result.numbers.inner.items ≡ [] }
         ensures view { shown result.numbers (S.Store.view result.inner) ≡ S.Store.view inner }
     {
         Renumbered::new(inner, Numbers::plain(alloc))
