@@ -1,5 +1,5 @@
 -- The lives of a house's files. Start here.
-use Rattle.std.specs.Prelude.{◌≡◌, ◌⊎◌, ℕ, List, [], ◌∷◌, ◌++◌, false, None}
+use Rattle.std.specs.Prelude.{◌≡◌, ◌⊎◌, ℕ, List, [], ◌∷◌, false, length, None}
 use Rattle.steps.specs.Table.{Band}
 use Rattle.auction_runs.specs.Tabled.{MayTable}
 use Rattle.house_laws.specs.Lives.{Life, life_history, lives_history}
@@ -209,14 +209,14 @@ pub record LeaveHistories (settings : Settings) (zone : Zone) (h : History) (run
 
 -- ---- what members are told
 
--- Of a run and its life, the replies to a member's messages that were served: of all replies, or of
--- those before the message in which the store failed. Of a band table that the run set nobody was told; a
+-- Of a run and its life, what a member is told: the replies at its places among the messages that were
+-- answered, which are the first that were served. Of a band table that the run set nobody was told; a
 -- reply to it would be the house's.
 abbrev pub IsTold : ℕ → Run → Life Asked → List (List ℕ) → Type 0
-IsTold c (Answers asked replies) life told = (first : List (List ℕ)) × (rest : List (List ℕ))
-    × (replies ≡ first ++ rest) × (told ≡ at_places c life.answered (served_replies first))
-IsTold c (Sets moment bands) life told =
-    (unsent : List (List ℕ)) × (told ≡ at_places c life.answered unsent)
+IsTold c (Answers asked replies) life told =
+    told ≡ at_places c life.answered (served_replies replies)
+IsTold c (Sets moment bands) life told = (unsent : List (List ℕ))
+    × (length unsent ≡ length life.answered) × (told ≡ at_places c life.answered unsent)
 
 -- in each of two lists of runs, life by life, a member is told the same
 abbrev pub AreToldAlike : ℕ → List Run → List (Life Asked) → List Run → List (Life Asked) → Type 0

@@ -5,7 +5,7 @@
 //! these say that what the program does over a house in a file is such a run.
 #![tactic(auto)]
 
-ghost use Rattle.std.specs.Prelude.{◌≡◌, ◌⊎◌, ℕ, List, [], Bool};
+ghost use Rattle.std.specs.Prelude.{◌≡◌, ◌⊎◌, ◌∷◌, ℕ, List, [], Bool};
 ghost use Rattle.auction_runs.specs.Listed.{IsOrderedOver};
 ghost use Rattle.auction_runs.specs.Over.{IsOver, IsReadOver};
 ghost use Rattle.auction_runs.specs.Runs.{HasDone, IsMadeBy, IsServedOver, IsUpgradedAs, MayHaveSetTable};
@@ -24,7 +24,8 @@ ghost use Rattle.lives.specs.Lives.{MaySet, Run, over_disk};
 ghost use Rattle.office.specs.declared.lister.Lister.{Lister};
 ghost use Rattle.settle.specs.declared.zone.Zone.{Zone};
 ghost use Rattle.site.specs.Histories.{Steps};
-ghost use Rattle.site.specs.Runs.{meant};
+ghost use Rattle.site.specs.Lives.{served_replies};
+ghost use Rattle.site.specs.Runs.{at_places, meant};
 ghost use Rattle.site_connections.specs.Turns.{HasTakenSome, Takes};
 ghost use Rattle.site_request.specs.declared.asked.Asked.{Asked};
 ghost use Rattle.sqlite.specs.Files.{HoldsDatabase};
@@ -79,6 +80,17 @@ pub fn twin_lives_are_told_alike()
         → AreAlike settings c h k → AreTwinLives meant settings c h k lives more
         → AreLivesOf settings zone h runs lives → AreLivesOf settings zone k others more
         → AreToldAlike c runs lives others more }
+{}
+
+/// Two runs tell a member alike only where it got the same replies from both: those at its places among
+/// the first that were served, of as many messages as were answered.
+pub fn told_alike_is_told_the_same()
+    ensures { (c : ℕ) (asked other : List Asked) (replies answers : List (List ℕ))
+        (life second : Life Asked)
+        → AreToldAlike c (Answers asked replies ∷ []) (life ∷ [])
+        (Answers other answers ∷ []) (second ∷ [])
+        → at_places c life.answered (served_replies replies)
+        ≡ at_places c second.answered (served_replies answers) }
 {}
 
 /// What a crash leaves of files in which a house was made holds the history to which nothing has
