@@ -1,6 +1,7 @@
 //! The program's run: words in, an exit status out.
 ghost use Rattle.std.specs.Prelude.{◌≡◌, ◌≤◌};
 ghost use Rattle.auction.specs.Tasks.{IsDone, IsLeftOf};
+ghost use Rattle.auction_runs.specs.Served.{most_messages};
 ghost use Rattle.site_connections.specs.Turns.{Takes};
 
 use crate::accounts::statement_file;
@@ -13,7 +14,7 @@ use crate::replay::replay_input;
 use crate::service::serve_file;
 use crate::stores::{StoreBelow, StoreInFile};
 use crate::upkeep::{bands_file, init_file, upgrade_file};
-use auction_runs::{MOST, TaskFault, finish_run};
+use auction_runs::{TaskFault, finish_run};
 use auction_words::{Task, read_task};
 use clap::Error;
 use device::Writing;
@@ -149,10 +150,12 @@ fn do_task<F: KeepInFile, M: KeepInMemory, C: Listen>(
     first: F::First,
 ) -> (u8, Remains<F::Rest, F::Left>)
     ensures done { result.0 ≡ 0 → IsDone F.Keep F.is_ended F.is_opened F.is_new F.is_upgraded
-        (λ zone. Takes F.Keep C.Input.Source C.Output.Sink C.accepts C.ends zone MOST) task.now result.1 }
+        (λ zone. Takes F.Keep C.Input.Source C.Output.Sink C.accepts C.ends zone most_messages)
+        task.now result.1 }
     ensures left { IsLeftOf F.Keep F.is_ended F.is_left F.is_opened F.is_new
         F.is_upgraded F.is_held F.is_made F.is_grown
-        (λ zone. Takes F.Keep C.Input.Source C.Output.Sink C.accepts C.ends zone MOST) task.now result.1 }
+        (λ zone. Takes F.Keep C.Input.Source C.Output.Sink C.accepts C.ends zone most_messages)
+        task.now result.1 }
     ensures within { result.0 ≤ 1 }
 {
     match task {

@@ -3,6 +3,7 @@ ghost use Rattle.std.specs.Prelude.{◌≡◌, ◌≤◌, ◌⊎◌, IfErr, OnOk
 ghost use Rattle.auction.specs.Remains.{IsEndedAs, IsLeftAs};
 ghost use Rattle.auction_runs.specs.Faults.{IsOfKeep};
 ghost use Rattle.auction_runs.specs.Runs.{HasAnswered, HasDone, HasServed, IsServedOver, IsServingFault, MayHaveAnswered};
+ghost use Rattle.auction_runs.specs.Served.{most_messages};
 ghost use Rattle.settle.specs.Zoned.{IsZoneOf};
 ghost use Rattle.site.specs.Replies.{zone_of};
 ghost use Rattle.site_connections.specs.Turns.{Takes};
@@ -10,7 +11,7 @@ ghost use Rattle.site_serve.specs.Serving.{keep_of};
 
 use crate::houses::KeepInFile;
 use crate::remains::{Remains, refuse_house};
-use auction_runs::{MOST, TaskFault, begin_site, serve_connections, serve_run};
+use auction_runs::{TaskFault, begin_site, serve_connections, serve_run};
 use auction_words::Serve;
 use device::Writing;
 use site::Site;
@@ -27,11 +28,11 @@ fn serve_site<K: KeepInFile, C: Listen>(
     requires zone { K.is_honest (keep_of site)
         → IsZoneOf (K.content (keep_of site)).settings.zone (zone_of site) }
     ensures all { OnOk result.0 (HasAnswered K.Keep
-        (λ zone. Takes K.Keep C.Input.Source C.Output.Sink C.accepts C.ends zone MOST)
+        (λ zone. Takes K.Keep C.Input.Source C.Output.Sink C.accepts C.ends zone most_messages)
         asked.count (keep_of site) result.1) }
     ensures fault { IfErr result.0 (IsServingFault K.Keep result.1) }
     ensures some { MayHaveAnswered K.Keep
-        (λ zone. Takes K.Keep C.Input.Source C.Output.Sink C.accepts C.ends zone MOST)
+        (λ zone. Takes K.Keep C.Input.Source C.Output.Sink C.accepts C.ends zone most_messages)
         asked.count (keep_of site) result.1 }
 {
     match C::listen(rt, asked.port, asked.count) {
@@ -51,12 +52,12 @@ fn serve_over<K: KeepInFile, C: Listen>(
     asked: Serve,
 ) -> (Result<(), TaskFault>, K)
     ensures all { OnOk result.0 (HasAnswered K.Keep
-        (λ zone. Takes K.Keep C.Input.Source C.Output.Sink C.accepts C.ends zone MOST)
+        (λ zone. Takes K.Keep C.Input.Source C.Output.Sink C.accepts C.ends zone most_messages)
         asked.count keep result.1) }
     ensures fault { IfErr result.0 (λ fault.
         IsServingFault K.Keep result.1 fault ⊎ IsOfKeep fault) }
     ensures some { MayHaveAnswered K.Keep
-        (λ zone. Takes K.Keep C.Input.Source C.Output.Sink C.accepts C.ends zone MOST)
+        (λ zone. Takes K.Keep C.Input.Source C.Output.Sink C.accepts C.ends zone most_messages)
         asked.count keep result.1 }
 {
     match begin_site(alloc, keep) {
@@ -73,10 +74,10 @@ fn serve_keep<K: KeepInFile, C: Listen>(
     asked: Serve,
 ) -> (u8, K::Left)
     ensures served { result.0 ≡ 0 → HasServed K.Keep K.is_ended
-        (λ zone. Takes K.Keep C.Input.Source C.Output.Sink C.accepts C.ends zone MOST)
+        (λ zone. Takes K.Keep C.Input.Source C.Output.Sink C.accepts C.ends zone most_messages)
         asked.count keep result.1 }
     ensures left { IsServedOver K.Keep K.is_ended K.is_left
-        (λ zone. Takes K.Keep C.Input.Source C.Output.Sink C.accepts C.ends zone MOST)
+        (λ zone. Takes K.Keep C.Input.Source C.Output.Sink C.accepts C.ends zone most_messages)
         asked.count keep result.1 }
     ensures within { result.0 ≤ 1 }
 {
@@ -100,11 +101,11 @@ pub(crate) fn serve_file<K: KeepInFile, C: Listen>(
 ) -> (u8, Remains<K::Rest, K::Left>)
     ensures served { result.0 ≡ 0 → IsEndedAs (HasDone (K.is_opened path.now)
         (HasServed K.Keep K.is_ended
-        (λ zone. Takes K.Keep C.Input.Source C.Output.Sink C.accepts C.ends zone MOST)
+        (λ zone. Takes K.Keep C.Input.Source C.Output.Sink C.accepts C.ends zone most_messages)
         asked.count)) result.1 }
     ensures left { IsLeftAs (K.is_held path.now) (HasDone (K.is_opened path.now)
         (IsServedOver K.Keep K.is_ended K.is_left
-        (λ zone. Takes K.Keep C.Input.Source C.Output.Sink C.accepts C.ends zone MOST)
+        (λ zone. Takes K.Keep C.Input.Source C.Output.Sink C.accepts C.ends zone most_messages)
         asked.count)) result.1 }
     ensures within { result.0 ≤ 1 }
 {

@@ -6,6 +6,10 @@ use Rattle.site_connections.specs.declared.connection.Connection.{Connection}
 use Rattle.auction_runs.specs.declared.fault.TaskFault.{TaskFault}
 use Rattle.auction_runs.specs.declared.fault.TaskFault.TheVariants.{Socket, Store, Write}
 
+-- how many messages of a connection are answered
+abbrev pub most_messages : ℕ
+most_messages = 10000
+
 -- The output failed and no connection was taken; accepting failed, after fewer were taken; or the keep
 -- failed in the last connection that was taken. Nothing else was done to the connections or the keep.
 abbrev pub StopsServing : {C K R W : Type 0} → (K → Bool) → (C × K → C × K → Type 0)

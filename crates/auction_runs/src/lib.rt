@@ -28,7 +28,7 @@ pub use fault::{Side, TaskFault, finish_run};
 pub use import::import_run;
 pub use init::init_run;
 pub use replay::replay_run;
-pub use serve::{MOST, begin_site, serve_connections, serve_run};
+pub use serve::{begin_site, serve_connections, serve_run};
 pub use statement::{Inquiry, statement_run};
 pub use surplus::{Raise, Trial, surplus_run};
 pub use upgrade::upgrade_run;

@@ -6,7 +6,7 @@ ghost use Rattle.auction_runs.specs.Begun.{IsUnbegun};
 ghost use Rattle.auction_runs.specs.Faults.{IsOfEnd, IsOfEnded, IsOfKeep};
 ghost use Rattle.auction_runs.specs.Over.{IsOver};
 ghost use Rattle.auction_runs.specs.Printed.{listening, served};
-ghost use Rattle.auction_runs.specs.Served.{StopsServing};
+ghost use Rattle.auction_runs.specs.Served.{StopsServing, most_messages};
 ghost use Rattle.settle.specs.Zoned.{IsZoneOf};
 ghost use Rattle.site.specs.Replies.{zone_of};
 ghost use Rattle.site_connections.specs.Turns.{Takes, TakesEach, TakesWell};
@@ -21,8 +21,8 @@ use site_connections::{Connections, TurnFault, serve_each};
 use std::alloc::Global;
 use std::io::Write;
 
-/// How many messages of a connection are answered.
-pub const MOST: u64 = 10_000;
+// How many messages of a connection are answered.
+const MOST: u64 = 10_000;
 
 /// The site over a keep. After an error the keep is given back.
 #[tactic(auto, using(crate::proofs::Begun::unbegun, crate::proofs::Begun::works))]
@@ -90,10 +90,10 @@ fn serve_all<C: Connections, K: Keep + Drop>(
     site: &mut Site<K>,
 ) -> Result<(), TaskFault>
     ensures each { OnOk result (TakesEach (TakesWell K.is_failed (Takes K.Keep C.Input.Source
-        C.Output.Sink C.accepts C.ends (zone_of site.old) MOST)) count
+        C.Output.Sink C.accepts C.ends (zone_of site.old) most_messages)) count
         (connections.old, keep_of site.old) (connections.new, keep_of site.new)) }
     ensures stops { IfErr result (StopsServing K.is_failed (Takes K.Keep C.Input.Source
-        C.Output.Sink C.accepts C.ends (zone_of site.old) MOST) C.accepts count
+        C.Output.Sink C.accepts C.ends (zone_of site.old) most_messages) C.accepts count
         (connections.old, keep_of site.old) (connections.new, keep_of site.new)) }
 {
     match serve_each(alloc, connections, count, site, MOST) {
@@ -114,10 +114,10 @@ fn listen<W: Write, C: Connections, K: Keep + Drop>(
     ensures report { result ≢ Err TaskFault.Write
         → Appends (W.contents output.old) (W.contents output.new) listening }
     ensures each { OnOk result (TakesEach (TakesWell K.is_failed (Takes K.Keep C.Input.Source
-        C.Output.Sink C.accepts C.ends (zone_of site.old) MOST)) count
+        C.Output.Sink C.accepts C.ends (zone_of site.old) most_messages)) count
         (connections.old, keep_of site.old) (connections.new, keep_of site.new)) }
     ensures stops { IfErr result (StopsServing K.is_failed (Takes K.Keep C.Input.Source
-        C.Output.Sink C.accepts C.ends (zone_of site.old) MOST) C.accepts count
+        C.Output.Sink C.accepts C.ends (zone_of site.old) most_messages) C.accepts count
         (connections.old, keep_of site.old) (connections.new, keep_of site.new)) }
 {
     write_listening(output)?;
@@ -139,10 +139,10 @@ pub fn serve_connections<W: Write, C: Connections, K: Keep + Drop>(
     ensures report { result.0 ≢ Err TaskFault.Write
         → Appends (W.contents output.old) (W.contents output.new) listening }
     ensures each { OnOk result.0 (TakesEach (TakesWell K.is_failed (Takes K.Keep C.Input.Source
-        C.Output.Sink C.accepts C.ends (zone_of site) MOST)) count
+        C.Output.Sink C.accepts C.ends (zone_of site) most_messages)) count
         (connections.old, keep_of site) (connections.new, result.1)) }
     ensures stops { IfErr result.0 (StopsServing K.is_failed (Takes K.Keep C.Input.Source
-        C.Output.Sink C.accepts C.ends (zone_of site) MOST) C.accepts count
+        C.Output.Sink C.accepts C.ends (zone_of site) most_messages) C.accepts count
         (connections.old, keep_of site) (connections.new, result.1)) }
 {
     let mut site = site;

@@ -42,7 +42,7 @@ pub use item::{Due, Item, ItemShown, OwnBest, OwnBid, OwnReserve, Terms};
 pub use keep::Keep;
 pub use limits::{
     MOST_CATEGORIES, MOST_EDITIONS, MOST_ITEMS, MOST_MEMBERS, MOST_QUESTIONS, MOST_SHOWN,
-    MOST_WATCHES,
+    MOST_WATCHES, limits_are_these_numbers,
 };
 pub use message::Message;
 pub use page::Page;

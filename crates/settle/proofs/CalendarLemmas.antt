@@ -1,10 +1,10 @@
 -- Whole months taken off lead to the date of a day, and no other date is that day's.
-use Rattle.std.proofs.Common.{◌≡◌, ◌≢◌, ℕ, zero, suc, ◌+◌, ◌-◌, ◌*◌, ◌/◌, ◌%◌, ◌<◌, ◌≤◌, nat_lt, ◌==◌, if◌then◌else◌, Bool, true, false, List, [], ◌∷◌, length, get_or, refl, sym, ap, ◌∙◌, arith, pos}
+use Rattle.std.proofs.Common.{◌≡◌, ◌≢◌, ℕ, zero, suc, ◌+◌, ◌-◌, ◌*◌, ◌/◌, ◌%◌, ◌<◌, ◌≤◌, nat_lt, ◌==◌, if◌then◌else◌, Bool, true, false, List, [], ◌∷◌, length, get_or, refl, sym, ap, ◌∙◌, arith, rules, pos, codes}
 use Rattle.std.proofs.lemmas.Bool.Decides.{nat_tests}
 use Rattle.jiff_core.proofs.SignedLemmas.{signed_arith}
 use Rattle.jiff_core.proofs.CalendarLemmas.{days_from_civil-day_count, days_in_month_bounds, day_count-day, day_count-next_month, day_count-next_year, day_count-last_of_year, day_count-epoch}
 use Rattle.jiff_core.proofs.DateLemmas.{epoch_day_injective, epoch_day_same}
-use Rattle.jiff_core.specs.Calendar.{day_count, days_in_month, IsDate}
+use Rattle.jiff_core.specs.Calendar.{day_count, days_from_civil, days_in_month, days_of_months, days_of_years, IsDate}
 use Rattle.jiff_core.specs.Date.{epoch_day}
 use Rattle.jiff_core.specs.declared.civil.date.Date.{Date}
 use Rattle.jiff.specs.Words.{date_text}
@@ -205,3 +205,19 @@ words_of (a ∷ b ∷ c ∷ d ∷ e ∷ f ∷ g ∷ []) century year month day s
 words_of (a ∷ b ∷ c ∷ d ∷ e ∷ f ∷ g ∷ h ∷ []) century year month day size small cs ys dash ms dash2 ds = absurd (omega arith)
 words_of (a ∷ b ∷ c ∷ d ∷ e ∷ f ∷ g ∷ h ∷ i ∷ []) century year month day size small cs ys dash ms dash2 ds = absurd (omega arith)
 words_of (a ∷ b ∷ c ∷ d ∷ e ∷ f ∷ g ∷ h ∷ i ∷ j ∷ k ∷ rest) century year month day size small cs ys dash ms dash2 ds = absurd (omega arith)
+
+-- ---- where days and moments end
+
+end_of_2100 : Date
+end_of_2100 = record { year = pos 2100; month = 12; day = 31; year_in = search rules; month_in = search rules; day_in = search rules }
+
+pub last_day_text : day_text LAST_DAY ≡ codes "2100-12-31"
+unfolding end_of_2100 days_from_civil day_count days_of_years days_of_months
+last_day_text = text_of_day end_of_2100 LAST_DAY (omega arith) refl
+
+start_of_2100 : Date
+start_of_2100 = record { year = pos 2100; month = 1; day = 1; year_in = search rules; month_in = search rules; day_in = search rules }
+
+pub new_year_text : day_text 47482 ≡ codes "2100-01-01"
+unfolding start_of_2100 days_from_civil day_count days_of_years days_of_months
+new_year_text = text_of_day start_of_2100 47482 (omega arith) refl

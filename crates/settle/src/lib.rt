@@ -20,7 +20,7 @@ mod zone;
 
 pub use day::{Day, LAST_DAY};
 pub use fault::SettleFault;
-pub use laws::{days_are_written_as_dates, zones_of_one_text_agree};
+pub use laws::{days_and_moments_end, days_are_written_as_dates, zones_of_one_text_agree};
 pub use line::Line;
 pub use sale::{Sold, fee};
 pub use statement::{Statement, lines};
