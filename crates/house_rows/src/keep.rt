@@ -1,5 +1,5 @@
 //! Whatever keeps the tables of the house.
-ghost use Rattle.std.specs.Prelude.{◌≡◌, ◌≤◌, ◌≢◌, ⊤, All, AllPairs, true, Bool, IfOk, IfSome, is_some, length};
+ghost use Rattle.std.specs.Prelude.{◌≡◌, ◌≤◌, ◌≢◌, ⊤, All, AllPairs, true, Bool, IfOk, IfSome, OnOk, is_some, length};
 ghost use Rattle.std.specs.List.{AllByRecursion};
 ghost use Rattle.settle.specs.Statement.{IsSale};
 ghost use Rattle.house_rows.specs.Answered.{IsAnswered};
@@ -173,8 +173,10 @@ pub trait Keep {
 
     /// How often a member was rated with each rating.
     fn ratings(&mut self, member: u64) -> Result<Ratings, KeepFault>
-        ensures { IsAnswered content is_failed is_honest may_leave self.old self.new result
-            (λ t v. v ≡ ratings_of t.feedback member) (FeedbackFitsTo member) };
+        ensures answers { IsAnswered content is_failed is_honest may_leave self.old self.new result
+            (λ t v. v ≡ ratings_of t.feedback member) (FeedbackFitsTo member) }
+        ensures fits { is_honest self.new
+            → OnOk result (FeedbackFitsTo member (content self.old)) };
 
     /// How many items a close at the moment would leave sold, and how many unsold.
     fn due(&mut self, moment: u64) -> Result<Due, KeepFault>

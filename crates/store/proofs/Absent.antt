@@ -1,20 +1,23 @@
 -- What is looked for by a number of more than 32 bits is not there.
-use Rattle.std.proofs.Common.{◌≡◌, ◌<◌, ◌≤◌, ◌^◌, ◌&&◌, ℕ, List, Bool, false, None, [], find, length, refl, ap}
+use Rattle.std.proofs.Common.{◌≡◌, ◌<◌, ◌≤◌, ◌^◌, ◌&&◌, ℕ, List, Bool, false, None, [], find, length, refl, ap, subst, sym}
 use Rattle.std.specs.Prelude.{◌==◌}
-use Rattle.std.specs.List.{list_any}
+use Rattle.std.specs.List.{AllByRecursion, list_any}
 use Rattle.sqlite_trees.specs.Tree.{Trees}
 use Rattle.house_rows.specs.Bids.{BidRow}
+use Rattle.house_rows.specs.Fits.{FeedbackFits}
 use Rattle.house_rows.specs.Found.{best_of, bids_of_on, watch_count}
 use Rattle.house_rows.specs.History.{counted}
 use Rattle.house_rows.specs.Pages.{ratings_of}
 use Rattle.house_rows.specs.Questions.{is_question}
 use Rattle.house_rows.specs.Ratings.{is_minus, is_plus, is_zero}
 use Rattle.house_rows.specs.Tables.{ItemRow}
+use Rattle.house_rows.specs.Taken.{FitWhere}
 use Rattle.house_rows.specs.Text.{same_text}
 use Rattle.house_rows.specs.Watches.{WatchRow, is_watch}
 use Rattle.house_rows.specs.declared.talk.Feedback.{Feedback}
 use Rattle.house_rows.specs.declared.talk.Question.{Question}
 use Rattle.store_rows.specs.ItemRows.{items_in}
+use Rattle.store_rows.proofs.ShownRows.{where_kept}
 use Rattle.store_rows.proofs.Small.{none_narrower}
 use Rattle.store_items.proofs.Small.{no_items_of}
 use Rattle.store_rows.specs.Sorted.{sorted_bids, sorted_feedback, sorted_questions, sorted_watches}
@@ -93,3 +96,8 @@ module _ (db : Trees) (n : ℕ) (high : 2 ^ 32 ≤ n) (low : n < 2 ^ 64) where
   pub no_ratings : ratings_of (tables_in db).feedback n ≡ record { plus = 0; zero = 0; minus = 0 }
   unfolding tables_in
   no_ratings = rw (none_rated (λ f. is_plus f.rating), none_rated (λ f. is_zero f.rating), none_rated (λ f. is_minus f.rating)) refl
+
+  pub no_feedback_unfit : FitWhere (λ f. f.to == n) FeedbackFits (tables_in db).feedback
+  unfolding tables_in
+  no_feedback_unfit =
+      where_kept (λ (f : Feedback). f.to == n) FeedbackFits (sorted_feedback db) (subst (AllByRecursion FeedbackFits) (sym (no_feedback_to db n high low)) tt)

@@ -316,7 +316,7 @@ impl<S: Alter> Keep for SqlKeep<S> {
         report!(self, is_given(&mut self.conn, item, giver))
     }
 
-    #[tactic(auto, using(crate::proofs::Absent::no_ratings))]
+    #[tactic(auto, using(crate::proofs::Absent::no_ratings, crate::proofs::Absent::no_feedback_unfit))]
     fn ratings(&mut self, member: u64) -> Result<Ratings, KeepFault> {
         self.serves()?;
         let Ok(member) = u32::try_from(member) else {

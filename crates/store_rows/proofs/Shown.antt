@@ -28,6 +28,10 @@ moved P xs ys same all = recursion_from_All P ys (All-permutation P xs ys same (
 pub every_stored : {X : Type 0} (key : X → Key) (P : X → Type 0) (xs : List X) → AllByRecursion P (sorted_by key xs) → AllByRecursion P xs
 every_stored key P xs all = moved P (sorted_by key xs) xs (sorted_moves key xs) all
 
+-- and what every row is, every sorted row is
+pub every_sorted : {X : Type 0} (key : X → Key) (P : X → Type 0) (xs : List X) → AllByRecursion P xs → AllByRecursion P (sorted_by key xs)
+every_sorted key P xs all = moved P xs (sorted_by key xs) (IsPermutation-sym (sorted_by key xs) xs (sorted_moves key xs)) all
+
 -- rows that rise rise by another order too
 rising_up : {X : Type 0} (key : X → Key) (P : X → Type 0) (S : X → X → Type 0) → ((a b : X) → P a → P b → is_less (key a) (key b) ≡ true → S a b) → (xs : List X) → AllByRecursion P xs → IsRising key xs → IsAscending S xs
 rising_up key P S f [] all up = tt

@@ -34,3 +34,12 @@ kept_where p Fits [] fits = tt
 kept_where p Fits (x ∷ table) fits =
     let rest = kept_where p Fits table fits.1 in
     elim (by_test (p x)) [ inl is ↦ rw is (fits.0 is, rest) | inr not ↦ rw not rest ]
+
+-- and where those fit that pass a test, rows fit that pass it
+pub where_kept : {T : Type 0} (p : T → Bool) (Fits : T → Type 0) (table : List T) → AllByRecursion Fits (filter p table) → AllByRecursion (λ x. p x ≡ true → Fits x) table
+where_kept p Fits [] fits = tt
+where_kept p Fits (x ∷ table) fits =
+    elim (by_test (p x)) [
+      | inl is ↦ (let kept : Fits x × AllByRecursion Fits (filter p table) = rw is at fits in ((λ passes. kept.0), where_kept p Fits table kept.1))
+      | inr not ↦ ((λ passes. absurd cc), where_kept p Fits table (rw not at fits))
+    ]

@@ -17,7 +17,7 @@ use Rattle.house_rows.proofs.Every.{every_as}
 use Rattle.store_rows.specs.ItemRows.{items_in}
 use Rattle.store_rows.specs.Rows.{bids_in, feedback_in, questions_in, watches_in}
 use Rattle.store_rows.specs.Tables.{tables_in}
-use Rattle.store_rows.proofs.Shown.{every_stored}
+use Rattle.store_rows.proofs.Shown.{every_sorted, every_stored}
 
 module _ (db : Trees) (sound : AreSound (tables_in db)) where
   pub bids_fit : AllByRecursion BidRowFits (bids_in db)
@@ -60,3 +60,8 @@ questions_where db p fits = every_stored question_key (λ (q : Question). p q �
 pub feedback_where : (db : Trees) (p : Feedback → Bool) → FitWhere p FeedbackFits (tables_in db).feedback → FitWhere p FeedbackFits (feedback_in db)
 unfolding tables_in
 feedback_where db p fits = every_stored feedback_key (λ (f : Feedback). p f ≡ true → FeedbackFits f) (feedback_in db) fits
+
+-- and what fits as it is stored fits in the order of the keys
+pub feedback_sorted : (db : Trees) (p : Feedback → Bool) → FitWhere p FeedbackFits (feedback_in db) → FitWhere p FeedbackFits (tables_in db).feedback
+unfolding tables_in
+feedback_sorted db p fits = every_sorted feedback_key (λ (f : Feedback). p f ≡ true → FeedbackFits f) (feedback_in db) fits

@@ -1,6 +1,7 @@
 //! How members were rated.
-ghost use Rattle.std.specs.Prelude.{◌≡◌, ◌==◌};
+ghost use Rattle.std.specs.Prelude.{◌≡◌, ◌==◌, OnOk};
 ghost use Rattle.sqlite.specs.Held.{state};
+ghost use Rattle.sqlite.specs.State.{HasCleanDisk};
 ghost use Rattle.house_rows.specs.History.{counted};
 ghost use Rattle.house_rows.specs.Taken.{FitWhere};
 ghost use Rattle.house_rows.specs.Pages.{ratings_of};
@@ -42,9 +43,12 @@ pub fn ratings<S: Alter>(
     member: u32,
 ) -> Result<Ratings, KeepFault>
     requires { Serves (state S.Store conn.old) }
-    ensures { Finds S.Store conn.old conn.new result
+    ensures finds { Finds S.Store conn.old conn.new result
         (λ db counts. counts ≡ ratings_of (tables_in db).feedback member)
         (λ db. FitWhere (λ f. f.to == member) FeedbackFits (feedback_in db)) }
+    ensures fits { HasCleanDisk (state S.Store conn.new) → OnOk result
+        (FitWhere (λ f. f.to == member) FeedbackFits
+        (feedback_in (state S.Store conn.old).now.trees)) }
 {
     let given = feedback_rows(alloc, conn, member)?;
     Ok(counts_of(&given))
