@@ -6,7 +6,8 @@ use Rattle.std.specs.List.{AllByRecursion}
 use Rattle.proxy.specs.Accepted.{AreAccepted}
 use Rattle.proxy.specs.Bids.{met_by, standing_of}
 use Rattle.proxy.specs.declared.bid.Bid.{Bid}
-use Rattle.proxy.specs.Rows.{is_shape}
+use Rattle.proxy.specs.Kept.{Kept}
+use Rattle.proxy.specs.Rows.{is_shape, is_standing}
 use Rattle.house_rows.specs.declared.change.Change.{Change}
 use Rattle.house_rows.specs.declared.item.Terms.{Terms}
 use Rattle.house_rows.specs.declared.fault.KeepFault.{KeepFault}
@@ -34,6 +35,30 @@ pub record IsBought (row : ItemRow) : Type 0 where
   pub price : row.item.terms.buy_now ≡ Some row.item.terms.price
   pub met : row.item.terms.met ≡ option_map (λ r. true) row.standing.reserve
 
+-- terms show the standing of an item's bids
+pub record ShowsBids (t : Terms) (k : Kept) : Type 0 where
+  pub price : t.price ≡ k.price
+  pub leader : t.leader ≡ k.leader
+  pub met : t.met ≡ kept_met k
+
+-- or that nobody has bid, and the item was bought at once at the buy-now price
+pub record ShowsPurchase (t : Terms) (k : Kept) : Type 0 where
+  pub sold : was_sold t.state ≡ true
+  pub no_bid : k.count ≡ 0
+  pub price : t.buy_now ≡ Some t.price
+  pub met : t.met ≡ option_map (λ r. true) k.reserve
+
+-- a reserve, if there is one, is over the start and at most the buy-now price
+abbrev pub IsReserve : ℕ → Option ℕ → Option ℕ → Type 0
+IsReserve start buy_now reserve = IfSome reserve (λ amount. (start < amount) × IfSome buy_now (λ most. amount ≤ most))
+
+-- what is sealed of an item goes with what its row shows: its reserve with the prices, its maxima with one another and with
+-- these bands, and the standing that they give with the terms
+pub record IsKeptItem (bands : List Band) (t : Terms) (k : Kept) : Type 0 where
+  pub reserve : IsReserve t.start t.buy_now k.reserve
+  pub standing : is_standing bands k ≡ true
+  pub report : ShowsBids t k ⊎ ShowsPurchase t k
+
 -- what an item's row shows of its bids is what a standing shows by these bands, whatever is sealed of it
 pub record IsByStanding (bands : List Band) (t : Terms) : Type 0 where
   -- what is sealed: the reserve, and the maxima, the greatest and the second
@@ -60,6 +85,16 @@ IsConsistentBy editions terms = IsConsistent (bands_in editions terms.item) term
 
 abbrev pub IsConsistentIn : Tables → Terms → Type 0
 IsConsistentIn t terms = IsConsistentBy (band_tables t) terms
+
+-- what is sealed goes with what is shown, by the item's own band table
+abbrev pub IsKeptItemBy : BandTables → Terms → Kept → Type 0
+IsKeptItemBy editions t k = IsKeptItem (bands_in editions t.item) t k
+
+abbrev pub IsKeptRowBy : BandTables → ItemRow → Type 0
+IsKeptRowBy editions row = IsKeptItemBy editions row.item.terms row.standing
+
+abbrev pub IsKeptRow : Tables → ItemRow → Type 0
+IsKeptRow t row = IsKeptRowBy (band_tables t) row
 
 -- every item's row that passes a test is consistent, each by its own band table
 abbrev pub AllConsistent : (ItemRow → Bool) → Tables → Type 0

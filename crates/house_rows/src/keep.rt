@@ -1,18 +1,18 @@
 //! Whatever keeps the tables of the house.
-ghost use Rattle.std.specs.Prelude.{◌≡◌, ◌≤◌, ◌≢◌, ⊤, All, AllPairs, true, Bool, IfOk, IfSome, OnOk, is_some, length};
+ghost use Rattle.std.specs.Prelude.{◌≡◌, ◌≤◌, ◌≢◌, ◌==◌, ◌&&◌, ⊤, All, AllPairs, true, Bool, IfOk, IfSome, OnOk, filter, is_some, length, nat_le, take};
 ghost use Rattle.std.specs.List.{AllByRecursion};
 ghost use Rattle.settle.specs.Statement.{IsSale};
 ghost use Rattle.house_rows.specs.Answered.{IsAnswered};
 ghost use Rattle.house_rows.specs.Asks.{ChangeFits};
 ghost use Rattle.house_rows.specs.Consistent.{AskedConsistent, AuctionConsistent, DueConsistent, ItemConsistent, ItemsConsistent, OwnBidsConsistent, SalesConsistent, TermsConsistent};
 ghost use Rattle.house_rows.specs.Fits.{CategoryFits, FeedbackFits, IsItem, IsMember, IsMoment, IsWithin, ItemFits, MemberFits, OwnBidFits, OwnReserveFits, QuestionFits, StandingFits, TermsFit};
-ghost use Rattle.house_rows.specs.Found.{all_items, all_published, ask_count, auction_at, best_of, category_at, category_named, counts_of, due_at, feedback_to, first_waiting, is_given, is_watched, item_at, item_with_lot, items_in, items_watched, member_named, own_bids, own_reserves, published_on, question_at, questions_of, reserve_at, sales_to, standing_at, terms_at, waiting_for, watch_count};
-ghost use Rattle.house_rows.specs.Keeping.{AreSound, RowFits};
-ghost use Rattle.house_rows.specs.Limits.{most_categories, most_items};
+ghost use Rattle.house_rows.specs.Found.{all_items, all_published, ask_count, auction_at, best_of, category_at, category_named, counts_of, due_at, feedback_to, first_waiting, is_given, is_watched, item_at, item_with_lot, items_in, items_watched, member_named, own_bids, own_reserves, published_on, question_at, questions_of, reserve_at, row_at, sales_to, standing_at, terms_at, waiting_for, watch_count};
+ghost use Rattle.house_rows.specs.Keeping.{AreSound, IsKeptRow, RowFits};
+ghost use Rattle.house_rows.specs.Limits.{most_categories, most_items, most_shown};
 ghost use Rattle.house_rows.specs.Making.{IsApplied};
 ghost use Rattle.house_rows.specs.Pages.{member_at, ratings_of};
 ghost use Rattle.house_rows.specs.Tables.{Tables, band_tables};
-ghost use Rattle.house_rows.specs.Taken.{AllPublishedFit, AllWaitingFit, CategoryFitsAt, CategoryFitsNamed, CategoryItemsFit, DueItemsFit, FeedbackFitsFrom, FeedbackFitsTo, FirstAskedFit, FirstGivenFit, FirstPublishedFit, FirstWaitingFit, ItemFitsAt, ItemIsOurs, MemberFitsAt, MemberFitsNamed, OwnBidsFit, OwnBidsFitOn, OwnReservesFit, QuestionFitsAt, SalesFit, WatchedFit, WatchesFit};
+ghost use Rattle.house_rows.specs.Taken.{AllPublishedFit, AllWaitingFit, CategoryFitsAt, CategoryFitsNamed, CategoryItemsFit, DueItemsFit, FeedbackFitsFrom, FeedbackFitsTo, FirstAskedFit, FirstGivenFit, FirstPublishedFit, FirstWaitingFit, ItemFitsAt, ItemIsOurs, MemberFitsAt, MemberFitsNamed, OwnBidsFit, OwnBidsFitOn, OwnReservesFit, QuestionFitsAt, SalesFit, WatchedFit, WatchesFit, start_of};
 
 use crate::auction::Auction;
 use crate::change::Change;
@@ -31,7 +31,8 @@ use settle::Sold;
 ///
 /// The number of a row that isn't there finds nothing. Lists of at most fifty are those that begin
 /// at a number. A look-up or a list is `Damaged` only where a row that it takes doesn't fit, whatever
-/// else is wrong with the tables. What stands last in its `IsAnswered` says which rows these are.
+/// else is wrong with the tables. What stands last in its `IsAnswered` says which rows these are. Of an
+/// item that is found what is sealed goes with what is shown, or the look-up is `Damaged`.
 pub trait Keep {
     /// The tables.
     ghost content: { Self → Tables };
@@ -107,14 +108,18 @@ pub trait Keep {
         ensures answers { IsAnswered content is_failed is_honest may_leave self.old self.new result
             (λ t v. v ≡ item_at t item) (ItemFitsAt item) }
         ensures fits { IfOk result (λ v. IfSome v ItemFits) }
-        ensures is_consistent { is_honest self.new → ItemConsistent (content self.old) result };
+        ensures is_consistent { is_honest self.new → ItemConsistent (content self.old) result }
+        ensures kept { is_honest self.new → OnOk result
+            (IfSome (row_at (content self.old) item) (IsKeptRow (content self.old))) };
 
     /// An item without its texts.
     fn terms(&mut self, item: u64) -> Result<Option<Terms>, KeepFault>
         ensures answers { IsAnswered content is_failed is_honest may_leave self.old self.new result
             (λ t v. v ≡ terms_at t item) (ItemFitsAt item) }
         ensures fits { IfOk result (λ v. IfSome v TermsFit) }
-        ensures is_consistent { is_honest self.new → TermsConsistent (content self.old) result };
+        ensures is_consistent { is_honest self.new → TermsConsistent (content self.old) result }
+        ensures kept { is_honest self.new → OnOk result
+            (IfSome (row_at (content self.old) item) (IsKeptRow (content self.old))) };
 
     /// The number of a seller's item with a lot.
     fn item_of(&mut self, seller: u64, lot: &str) -> Result<Option<u32>, KeepFault>
@@ -126,14 +131,18 @@ pub trait Keep {
     fn standing(&mut self, item: u64) -> Result<Option<Standing>, KeepFault>
         ensures answers { IsAnswered content is_failed is_honest may_leave self.old self.new result
             (λ t v. v ≡ standing_at t item) (ItemFitsAt item) }
-        ensures fits { IfOk result (λ v. IfSome v StandingFits) };
+        ensures fits { IfOk result (λ v. IfSome v StandingFits) }
+        ensures kept { is_honest self.new → OnOk result
+            (IfSome (row_at (content self.old) item) (IsKeptRow (content self.old))) };
 
     /// An item without its texts, with the standing of its bids; of a bought item that of none.
     fn auction(&mut self, item: u64) -> Result<Option<Auction>, KeepFault>
         ensures answers { IsAnswered content is_failed is_honest may_leave self.old self.new result
             (λ t v. v ≡ auction_at t item) (ItemFitsAt item) }
         ensures fits { IfOk result (λ v. IfSome v (λ a. TermsFit a.terms × StandingFits a.standing)) }
-        ensures is_consistent { is_honest self.new → AuctionConsistent (content self.old) result };
+        ensures is_consistent { is_honest self.new → AuctionConsistent (content self.old) result }
+        ensures kept { is_honest self.new → OnOk result
+            (IfSome (row_at (content self.old) item) (IsKeptRow (content self.old))) };
 
     /// A member's greatest maximum on an item, or 0, and the number of its bids there.
     fn own_best(&mut self, item: u64, member: u64) -> Result<OwnBest, KeepFault>
@@ -190,7 +199,11 @@ pub trait Keep {
         ensures answers { IsAnswered content is_failed is_honest may_leave self.old self.new result
             (λ t v. v.items ≡ items_in t category from) (CategoryItemsFit category from) }
         ensures fits { IfOk result (λ v. AllByRecursion ItemFits v.items) }
-        ensures is_consistent { is_honest self.new → ItemsConsistent (content self.old) result };
+        ensures is_consistent { is_honest self.new → ItemsConsistent (content self.old) result }
+        ensures kept { is_honest self.new → OnOk result
+            (AllByRecursion (IsKeptRow (content self.old)) (take most_shown
+            (filter (λ row. (row.item.terms.category == category)
+            && nat_le (start_of from) row.item.terms.item) (content self.old).items))) };
 
     /// The items on which a member has bid, from a number on; at most fifty.
     fn bids_of(&mut self, member: u64, from: u64) -> Result<Vec<OwnBid>, KeepFault>
@@ -245,7 +258,9 @@ pub trait Keep {
         ensures answers { IsAnswered content is_failed is_honest may_leave self.old self.new result
             (λ t v. v.items ≡ all_items t) (λ t. AllByRecursion (RowFits t) t.items) }
         ensures fits { IfOk result (λ v. AllByRecursion ItemFits v.items) }
-        ensures is_consistent { is_honest self.new → ItemsConsistent (content self.old) result };
+        ensures is_consistent { is_honest self.new → ItemsConsistent (content self.old) result }
+        ensures kept { is_honest self.new → OnOk result
+            (AllByRecursion (IsKeptRow (content self.old)) (content self.old).items) };
 
     /// All published questions, by item, asker and number.
     fn all_published(&mut self) -> Result<Vec<Question>, KeepFault>

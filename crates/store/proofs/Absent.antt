@@ -1,12 +1,13 @@
 -- What is looked for by a number of more than 32 bits is not there.
-use Rattle.std.proofs.Common.{◌≡◌, ◌<◌, ◌≤◌, ◌^◌, ◌&&◌, ℕ, List, Bool, false, None, [], find, length, refl, ap, subst, sym}
-use Rattle.std.specs.Prelude.{◌==◌}
+use Rattle.std.proofs.Common.{◌≡◌, ◌<◌, ◌≤◌, ◌^◌, ◌&&◌, ℕ, List, Bool, false, None, [], find, length, refl, ap, subst, sym, Option}
+use Rattle.std.specs.Prelude.{◌==◌, IfSome}
 use Rattle.std.specs.List.{AllByRecursion, list_any}
 use Rattle.sqlite_trees.specs.Tree.{Trees}
 use Rattle.house_rows.specs.Bids.{BidRow}
 use Rattle.house_rows.specs.Fits.{FeedbackFits}
-use Rattle.house_rows.specs.Found.{best_of, bids_of_on, watch_count}
+use Rattle.house_rows.specs.Found.{best_of, bids_of_on, row_at, watch_count}
 use Rattle.house_rows.specs.History.{counted}
+use Rattle.house_rows.specs.Keeping.{IsKeptRow}
 use Rattle.house_rows.specs.Pages.{ratings_of}
 use Rattle.house_rows.specs.Questions.{is_question}
 use Rattle.house_rows.specs.Ratings.{is_minus, is_plus, is_zero}
@@ -19,7 +20,7 @@ use Rattle.house_rows.specs.declared.talk.Question.{Question}
 use Rattle.store_rows.specs.ItemRows.{items_in}
 use Rattle.store_rows.proofs.ShownRows.{where_kept}
 use Rattle.store_rows.proofs.Small.{none_narrower}
-use Rattle.store_items.proofs.Small.{no_items_of}
+use Rattle.store_items.proofs.Small.{no_item, no_items_of}
 use Rattle.store_rows.specs.Sorted.{sorted_bids, sorted_feedback, sorted_questions, sorted_watches}
 use Rattle.store_rows.specs.Tables.{tables_in}
 use Rattle.store_rows.proofs.SmallByKey.{no_bids_by, no_bids_on, no_feedback_from, no_feedback_on, no_feedback_to, no_questions_by, no_questions_numbered, no_questions_on, no_watches_by, no_watches_of}
@@ -101,3 +102,7 @@ module _ (db : Trees) (n : ℕ) (high : 2 ^ 32 ≤ n) (low : n < 2 ^ 64) where
   unfolding tables_in
   no_feedback_unfit =
       where_kept (λ (f : Feedback). f.to == n) FeedbackFits (sorted_feedback db) (subst (AllByRecursion FeedbackFits) (sym (no_feedback_to db n high low)) tt)
+
+  pub no_row_kept : IfSome (row_at (tables_in db) n) (IsKeptRow (tables_in db))
+  unfolding tables_in
+  no_row_kept = subst (λ (o : Option ItemRow). IfSome o (IsKeptRow (tables_in db))) (sym (no_item db n high low)) tt

@@ -6,7 +6,7 @@ use Rattle.std.specs.Prelude.{◌==◌, ◌&&◌, ◌↔◌, Err, IfSome, IsErrO
 use Rattle.std.proofs.lemmas.Bool.Decides.{nat_tests}
 use Rattle.std.specs.List.{AllByRecursion}
 use Rattle.sqlite_trees.specs.Tree.{Trees}
-use Rattle.house_rows.specs.Keeping.{AllConsistent, AreSound, AreSoundBy, Faults, FitsBy, RowFits, IsConsistentAt, IsConsistentBy, IsConsistentIn, IsRead}
+use Rattle.house_rows.specs.Keeping.{AllConsistent, AreSound, AreSoundBy, Faults, FitsBy, RowFits, IsConsistentAt, IsConsistentBy, IsConsistentIn, IsKeptItemBy, IsKeptRow, IsKeptRowBy, IsRead}
 use Rattle.house_rows.specs.Taken.{FitWhere}
 use Rattle.house_rows.specs.Editions.{BandTables}
 use Rattle.proxy.specs.Kept.{Kept}
@@ -81,6 +81,29 @@ module _ {seen : Option Auction} (db : Trees) (editions : BandTables) (reserves 
   pub seen_is_consistent : (a : Auction) → seen ≡ Some a → IsConsistentIn (tables_in db) a.terms
   seen_is_consistent a is = subst (λ (b : BandTables). IsConsistentBy b a.terms) (sym known.editions_are) (seen_there_still a is).is_consistent
 
+  -- what is sealed goes with what is shown by the band tables of the tables, where it does by those that are known
+  pub row_is_kept : (item : ℕ) → IfSome (find (is_item item) (items_in db)) (IsKeptRowBy editions) → IfSome (row_at (tables_in db) item) (IsKeptRow (tables_in db))
+  unfolding tables_in
+  row_is_kept item = subst (λ (b : BandTables). IfSome (find (is_item item) (items_in db)) (IsKeptRowBy b)) (sym known.editions_are)
+
+  pub rows_are_kept : (rows : List ItemRow) → AllByRecursion (IsKeptRowBy editions) rows → AllByRecursion (IsKeptRow (tables_in db)) rows
+  rows_are_kept rows = subst (λ (b : BandTables). AllByRecursion (IsKeptRowBy b) rows) (sym known.editions_are)
+
+  -- so of an auction that was found
+  pub found_is_kept : (item : ℕ) (found : Option Auction) → found ≡ option_map auction_of (find (is_item item) (items_in db)) → IfSome found (λ a. IsKeptItemBy editions a.terms a.standing)
+      → IfSome (row_at (tables_in db) item) (IsKeptRow (tables_in db))
+  found_is_kept item found are kept =
+      row_is_kept item (of_row (find (is_item item) (items_in db)) (subst (λ (o : Option Auction). IfSome o (λ a. IsKeptItemBy editions a.terms a.standing)) are kept))
+    where
+      of_row : (o : Option ItemRow) → IfSome (option_map auction_of o) (λ a. IsKeptItemBy editions a.terms a.standing) → IfSome o (IsKeptRowBy editions)
+      of_row None so = tt
+      of_row (Some row) so = so
+
+  pub seen_is_kept : (a : Auction) (item : ℕ) → seen ≡ Some a → a.terms.item ≡ item → IfSome (row_at (tables_in db) item) (IsKeptRow (tables_in db))
+  seen_is_kept a item is same =
+      let there = seen_there_still a is in
+      found_is_kept item (Some a) (subst (λ (n : ℕ). Some a ≡ option_map auction_of (find (is_item n) (items_in db))) same (sym there.found)) there.kept
+
   -- what is consistent with the band tables that are known is consistent in the tables
   pub one_is_consistent : (item : Option Item) → IfSome item (λ it. IsConsistentBy editions it.terms) → IfSome item (λ it. IsConsistentIn (tables_in db) it.terms)
   one_is_consistent item = subst (λ (b : BandTables). IfSome item (λ it. IsConsistentBy b it.terms)) (sym known.editions_are)
@@ -122,13 +145,13 @@ forgotten editions reserves counts clock db known = record {
 pub item_seen : {seen : Option Auction} (editions : BandTables) (reserves : List ReserveRow) (counts : Counts) (clock : ℕ) (item : ℕ) (found : Option Auction) (db : Trees)
     → IsKnown editions reserves counts clock seen db → found ≡ option_map auction_of (find (is_item item) (items_in db))
     → IfSome found (λ a. TermsFit a.terms × StandingFits a.standing) → IfSome found (λ a. IsConsistentBy editions a.terms)
-    → IsKnown editions reserves counts clock found db
-item_seen editions reserves counts clock item found db known is fits consistent = record {
+    → IfSome found (λ a. IsKeptItemBy editions a.terms a.standing) → IsKnown editions reserves counts clock found db
+item_seen editions reserves counts clock item found db known is fits consistent kept = record {
   editions_are = known.editions_are;
   reserves_are = known.reserves_are;
   counts_are = known.counts_are;
   clock_is = known.clock_is;
-  seen_is = seen_there db editions item found is fits consistent;
+  seen_is = seen_there db editions item found is fits consistent kept;
 }
 
 -- a fault that is no damage is reported as none

@@ -7,7 +7,7 @@ use Rattle.house_rows.specs.Changed.{is_item}
 use Rattle.house_rows.specs.Editions.{BandTables}
 use Rattle.house_rows.specs.Fits.{StandingFits, TermsFit}
 use Rattle.house_rows.specs.Found.{auction_of}
-use Rattle.house_rows.specs.Keeping.{IsConsistentBy}
+use Rattle.house_rows.specs.Keeping.{IsConsistentBy, IsKeptItemBy}
 use Rattle.house_rows.specs.Tables.{ItemRow}
 use Rattle.house_rows.specs.declared.auction.Auction.{Auction}
 use Rattle.store_rows.specs.ItemRows.{items_in}
@@ -25,12 +25,13 @@ number_of number (row ∷ rows) = one (is_item number row) refl (number_of numbe
 
 pub seen_there : (db : Trees) (editions : BandTables) (number : ℕ) (found : Option Auction) → found ≡ option_map auction_of (find (is_item number) (items_in db))
     → IfSome found (λ a. TermsFit a.terms × StandingFits a.standing) → IfSome found (λ a. IsConsistentBy editions a.terms)
-    → IfSome found (λ a. IsThere editions a.terms.item a db)
-seen_there db editions number None is fits consistent = tt
-seen_there db editions number (Some a) is fits consistent =
+    → IfSome found (λ a. IsKeptItemBy editions a.terms a.standing) → IfSome found (λ a. IsThere editions a.terms.item a db)
+seen_there db editions number None is fits consistent kept = tt
+seen_there db editions number (Some a) is fits consistent kept =
     let same : a.terms.item ≡ number = subst (λ (o : Option Auction). IfSome o (λ a. a.terms.item ≡ number)) (sym is) (number_of number (items_in db)) in
     record {
       found = ap (λ (n : ℕ). option_map auction_of (find (is_item n) (items_in db))) same ∙ sym is;
       fits = fits.0;
       is_consistent = consistent;
+      kept = kept;
     }

@@ -334,7 +334,7 @@ impl<S: Alter> Keep for SqlKeep<S> {
         report!(self, due(self.alloc, &mut self.conn, &self.rules, moment))
     }
 
-    #[tactic(auto, using(crate::proofs::AbsentLists::no_items))]
+    #[tactic(auto, using(crate::proofs::AbsentLists::no_items, crate::proofs::AbsentLists::no_rows_kept))]
     fn items_in(&mut self, category: u64, from: u64) -> Result<Vec<Item>, KeepFault> {
         self.serves()?;
         let Ok(category) = u32::try_from(category) else {

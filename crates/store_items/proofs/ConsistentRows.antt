@@ -1,5 +1,5 @@
 -- What is handed out is of items whose rows are consistent.
-use Rattle.std.proofs.Common.{◌≡◌, ◌≤◌, ◌⊎◌, ◌||◌, refl, ℕ, Bool, true, false, not, List, [], ◌∷◌, map, filter, find, option_map, Option, Some, Result, Ok, Err, inl, inr, sym, subst}
+use Rattle.std.proofs.Common.{◌≡◌, ◌≤◌, ◌⊎◌, ◌||◌, refl, ℕ, zero, suc, Bool, true, false, not, List, [], ◌∷◌, ◌++◌, map, filter, find, option_map, take, Option, Some, None, Result, Ok, Err, inl, inr, sym, subst}
 use Rattle.std.specs.Prelude.{◌==◌, IfSome, OnOk}
 use Rattle.std.specs.List.{AllByRecursion, list_any}
 use Rattle.sqlite_trees.specs.Tree.{Trees}
@@ -20,6 +20,7 @@ use Rattle.house_rows.proofs.Every.{every_as}
 use Rattle.house_rows.proofs.Put.{by_test}
 use Rattle.store_rows.specs.ItemRows.{items_in}
 use Rattle.store_rows.specs.Tables.{tables_in}
+use Rattle.store_rows.proofs.Wrote.{all_more}
 use Rattle.store_items.specs.ConsistentRows.{HasStandingItem, RowsFit, RowsAreConsistent, ItemIsConsistent}
 use Rattle.store_items.proofs.PartySales.{all_kept, buyer_is}
 use Rattle.store_items.proofs.Rows.{whole}
@@ -27,6 +28,34 @@ use Rattle.store_items.proofs.Rows.{whole}
 pub ok_so : {A E : Type 0} {P : Type 0} (r : Result A E) → P → OnOk r P
 ok_so (Ok a) so = so
 ok_so (Err e) so = tt
+
+pub ok_as : {A E : Type 0} {P Q : Type 0} (r : Result A E) → OnOk r P → (P → Q) → OnOk r Q
+ok_as (Ok a) so as' = as' so
+ok_as (Err e) so as' = tt
+
+-- each row has a property, where one that has it comes besides
+pub pushed : {A E : Type 0} (P : A → Type 0) (result : Result (Unit {0}) E) (old new : List A) (row : A)
+    → OnOk result (new ≡ old ++ row ∷ []) → P row → AllByRecursion P old → OnOk result (AllByRecursion P new)
+pushed P (Ok u) old new row is here each = rw is (all_more P old row each here)
+pushed P (Err e) old new row is here each = tt
+
+-- what is there is there whole
+pub some_whole : {A : Type 0} (P : A → Type 0) (o : Option A) → IfSome (option_map (λ (x : A). x) o) P → IfSome o P
+some_whole P None so = tt
+some_whole P (Some x) so = so
+
+pub map_whole : {A : Type 0} (P : A → Type 0) (xs : List A) → AllByRecursion P (map (λ (x : A). x) xs) → AllByRecursion P xs
+map_whole P [] all = tt
+map_whole P (x ∷ xs) all = (all.0, map_whole P xs all.1)
+
+pub all_whole : {A : Type 0} (P : A → Type 0) (xs : List A) → AllByRecursion P (map (λ (x : A). x) (filter (λ _. true) xs)) → AllByRecursion P xs
+all_whole P [] all = tt
+all_whole P (x ∷ xs) all = (all.0, all_whole P xs all.1)
+
+pub take_whole : {A : Type 0} (P : A → Type 0) (n : ℕ) (xs : List A) → AllByRecursion P (take n (map (λ (x : A). x) xs)) → AllByRecursion P (take n xs)
+take_whole P zero xs all = tt
+take_whole P (suc n) [] all = tt
+take_whole P (suc n) (x ∷ xs) all = (all.0, take_whole P n xs all.1)
 
 -- ---- the rows that pass a test
 
@@ -99,19 +128,19 @@ module _ (editions : BandTables) (db : Trees) where
 
 -- ---- rows that a member's sales take
 
-sells_passes : (zero mine leads : Bool) → mine ≡ true → (zero || (mine || leads)) ≡ true
+sells_passes : (nobody mine leads : Bool) → mine ≡ true → (nobody || (mine || leads)) ≡ true
 sells_passes true mine leads is = refl
 sells_passes false true leads is = refl
 sells_passes false false leads is = absurd (let e : false ≡ true = is in cc)
 
-leads_passes : (zero mine leads : Bool) → leads ≡ true → (zero || (mine || leads)) ≡ true
+leads_passes : (nobody mine leads : Bool) → leads ≡ true → (nobody || (mine || leads)) ≡ true
 leads_passes true mine leads is = refl
 leads_passes false true leads is = refl
 leads_passes false false leads is = is
 
-zero_passes : (zero other : Bool) → zero ≡ true → (zero || other) ≡ true
-zero_passes true other is = refl
-zero_passes false other is = absurd (let e : false ≡ true = is in cc)
+nobody_passes : (nobody other : Bool) → nobody ≡ true → (nobody || other) ≡ true
+nobody_passes true other is = refl
+nobody_passes false other is = absurd (let e : false ≡ true = is in cc)
 
 module _ (editions : BandTables) (db : Trees) (member : ℕ) (fits : FitWhere (may_be_party member) (FitsBy editions) (items_in db)) where
   pub sold_fit : FitWhere (λ row. row.item.terms.seller == member) (FitsBy editions) (items_in db)
@@ -123,5 +152,5 @@ module _ (editions : BandTables) (db : Trees) (member : ℕ) (fits : FitWhere (m
       (λ row fit is. fit (leads_passes (member == 0) (row.item.terms.seller == member) (is_leader row.item.terms.leader member) is)) fits
 
   pub all_fit : (member == 0) ≡ true → AllByRecursion (FitsBy editions) (items_in db)
-  all_fit zero = every_as (λ (row : ItemRow). may_be_party member row ≡ true → FitsBy editions row) (FitsBy editions) (items_in db)
-      (λ row fit. fit (zero_passes (member == 0) _ zero)) fits
+  all_fit nobody = every_as (λ (row : ItemRow). may_be_party member row ≡ true → FitsBy editions row) (FitsBy editions) (items_in db)
+      (λ row fit. fit (nobody_passes (member == 0) _ nobody)) fits

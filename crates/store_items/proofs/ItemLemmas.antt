@@ -31,7 +31,7 @@ use Rattle.house_rows.specs.Tables.{ItemRow}
 use Rattle.house_rows.specs.Text.{same_text}
 use Rattle.store_rows.specs.Schema.{item_layout, item_table}
 use Rattle.store_rows.specs.Rows.{number_in, maybe_number_in, reserves_in}
-use Rattle.store_rows.specs.ItemRows.{amount_of, auction_by, is_state, item_by, kept_from, item_row_in, items_in, met_with}
+use Rattle.store_rows.specs.ItemRows.{amount_of, auction_by, is_state, item_by, kept_from, item_row_in, items_in, met_with, row_by}
 use Rattle.store_rows.specs.House.{IsHouse}
 use Rattle.store_items.specs.Items.{AddsItem, OfItem, SetsStanding, SetsBought, SetsClosed, SetsSettled, with_end}
 use Rattle.store_rows.proofs.RowLemmas.{is_text, int_if, text_if, equals_number, equals_text, first_part, alone, row_key, small, two}
@@ -122,6 +122,15 @@ module _ (old new : State) (answer : List Row) (house : IsHouse old.now) where
       first_part (item_by (reserves_in old.now.trees)) (λ (row : ItemRow). row.item) (is_item n) answer (items_in old.now.trees)
       (typed_part (item_by (reserves_in old.now.trees)) (row_of old) (λ (row : ItemRow). row.item) (is_item n) IsRow (equals 0 ∷ []) item_shown params rows answer (λ r. refl) (λ r is. rw (equals_number (rowid r) n is.number low) (alone _)) (are_rows old.now house) order)
 
+  -- the whole row
+  pub first_whole : (n : ℕ) → n < 2 ^ 32 → Shown item_at_text (Int (pos n) ∷ []) old new answer → option_map (row_by (reserves_in old.now.trees)) (slice_get answer 0) ≡ option_map (λ (row : ItemRow). row) (find (is_item n) (items_in old.now.trees))
+  first_whole n low h =
+      let params = Int (pos n) ∷ [] in
+      let read = reads_as item_at_text params old new _ house.schema _ (item_at_is _).0 (item_at_is _).2 (item_at_is _).1 answer h in
+      let order = in_order (equals 0 ∷ []) item_shown params rows answer house.shaped.1.1.1.1.0.0 (listed 6 (equals 0 ∷ []) item_shown by_rowid (overlay old.now.trees []) params answer (read.answer Null)) in
+      first_part (row_by (reserves_in old.now.trees)) (λ (row : ItemRow). row) (is_item n) answer (items_in old.now.trees)
+      (typed_part (row_by (reserves_in old.now.trees)) (row_of old) (λ (row : ItemRow). row) (is_item n) IsRow (equals 0 ∷ []) item_shown params rows answer (λ r. refl) (λ r is. rw (equals_number (rowid r) n is.number low) (alone _)) (are_rows old.now house) order)
+
   pub first_auction : (n : ℕ) → n < 2 ^ 32 → Shown auction_at_text (Int (pos n) ∷ []) old new answer → option_map (auction_by (reserves_in old.now.trees)) (slice_get answer 0) ≡ option_map auction_of (find (is_item n) (items_in old.now.trees))
   first_auction n low h =
       let params = Int (pos n) ∷ [] in
@@ -140,6 +149,12 @@ module _ (old new : State) (answer : List Row) (house : IsHouse old.now) where
       first_part (λ r. number_in (column r 0)) (λ (row : ItemRow). row.item.terms.item) keep answer (items_in old.now.trees)
       (typed_part (λ r. number_in (column r 0)) (row_of old) (λ (row : ItemRow). row.item.terms.item) keep IsRow by_lot (Rattle.sqlite.specs.Term.col 1 0 ∷ []) params rows answer (λ r. refl)
       (λ r is. rw (equals_number (column r 2) seller is.seller low, equals_text (column r 4) lot u is.lot) (two _ _)) (are_rows old.now house) order)
+
+  pub whole_answer : Shown all_items_text [] old new answer → map (row_by (reserves_in old.now.trees)) answer ≡ map (λ (row : ItemRow). row) (filter (λ _. true) (items_in old.now.trees))
+  whole_answer h =
+      let read = reads_as all_items_text [] old new _ house.schema _ (all_items_is _).0 (all_items_is _).2 (all_items_is _).1 answer h in
+      let order = in_order [] item_shown [] rows answer house.shaped.1.1.1.1.0.0 (listed 6 [] item_shown by_rowid (overlay old.now.trees []) [] answer (read.answer Null)) in
+      typed_part (row_by (reserves_in old.now.trees)) (row_of old) (λ (row : ItemRow). row) (λ _. true) IsRow [] item_shown [] rows answer (λ r. refl) (λ r is. refl) (are_rows old.now house) order
 
   pub items_answer : Shown all_items_text [] old new answer → map (item_by (reserves_in old.now.trees)) answer ≡ map (λ (row : ItemRow). row.item) (items_in old.now.trees)
   items_answer h =

@@ -26,7 +26,7 @@ use Rattle.house_rows.specs.Editions.{BandTables}
 use Rattle.house_rows.proofs.Put.{by_test}
 use Rattle.store_rows.specs.House.{IsHouse}
 use Rattle.store_rows.specs.declared.reserve.ReserveRow.{ReserveRow}
-use Rattle.store_rows.specs.ItemRows.{item_by, item_row_in, items_in}
+use Rattle.store_rows.specs.ItemRows.{item_by, item_row_in, items_in, row_by}
 use Rattle.store_rows.specs.Plain.{passes, shown_by}
 use Rattle.store_rows.specs.Rows.{number_in, reserves_in}
 use Rattle.store_rows.specs.Schema.{house_by}
@@ -142,6 +142,16 @@ module _ (category from : ℕ) (category_low : category < 2 ^ 32) (from_low : fr
 
   abbrev keeps_row : ItemRow → Bool
   keeps_row row = keeps_item category from row.item
+
+  -- the whole rows that are shown
+  pub whole_shown : (rows : List Row) → Shown stray_items_text here old new [] → ShowsFirst 50 items_text params old new rows
+      → map (row_by R) rows ≡ take 50 (map (λ (row : ItemRow). row) (filter keeps_row (items_in old.now.trees)))
+  whole_shown rows none first =
+      let no_stray = none_passes stray_test (col 1 0 ∷ []) by_rowid here table [] (lists stray_items_text 6 stray_test (col 1 0 ∷ []) by_rowid _ stray_items_is (λ db. refl) old new here [] house none) refl in
+      let order = in_order test item_shown params table first.all house.shaped.1.1.1.1.0.0 (lists items_text 6 test item_shown by_rowid _ items_is (λ db. refl) old new params first.all house first.shown) in
+      let are = all_both IsRow (λ r. passes stray_test here r ≡ false) (λ r. IsRow r × (passes stray_test here r ≡ false)) (λ r is no. (is, no)) table (are_rows old.now house) no_stray in
+      ap (map (row_by R)) first.are ∙ sym (take-map (row_by R) 50 first.all)
+      ∙ ap (take 50) (typed_part (row_by R) make (λ (row : ItemRow). row) keeps_row (λ r. IsRow r × (passes stray_test here r ≡ false)) test item_shown params table first.all (λ r. refl) (λ r is. passing r is.0 is.1) are order)
 
   -- the rows that are shown, where these fit
   pub shown_held : (rows : List Row) → Shown stray_items_text here old new [] → ShowsFirst 50 items_text params old new rows → (editions : BandTables)

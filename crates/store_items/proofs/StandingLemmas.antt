@@ -7,11 +7,12 @@ use Rattle.proxy.specs.Rows.{is_standing}
 use Rattle.proxy.proofs.Shapes.{accepted_shape}
 use Rattle.house_rows.specs.declared.item.Terms.{Terms}
 use Rattle.house_rows.specs.Fits.{IsMember, StandingFits, TermsFit}
+use Rattle.house_rows.specs.Found.{auction_of}
 use Rattle.house_rows.specs.Keeping.{ItemRowFits}
 use Rattle.house_rows.specs.Limits.{most_bids, most_cents}
 use Rattle.store_rows.specs.Rows.{maybe_number_in, number_in}
 use Rattle.store_rows.specs.declared.reserve.ReserveRow.{ReserveRow}
-use Rattle.store_rows.specs.ItemRows.{amount_of, auction_by, is_state, item_row_in, kept_from, terms_of, with_met}
+use Rattle.store_rows.specs.ItemRows.{amount_of, auction_by, is_state, item_row_in, kept_from, row_by, terms_of, with_met}
 use Rattle.store_items.proofs.ItemLemmas.{fits_state}
 
 -- top and second are amounts, where the top that is reported is one
@@ -76,3 +77,10 @@ auction_reported reserves r fits = rw (fits_state (is_state (column r 6)) (numbe
 pub first : {A : Type 0} (P : A → Type 0) (xs : List A) → AllByRecursion P xs → IfSome (slice_get xs 0) P
 first P [] all = tt
 first P (x ∷ xs) all = all.0
+
+-- and what it shows of an item that fits gives its row
+pub item_reported : (reserves : List ReserveRow) (r : Row) → TermsFit (terms_of r) → auction_of (row_by reserves r) ≡ record {
+  terms = with_met (amount_of reserves (terms_of r).item) (maybe_number_in (column r 14)) (terms_of r);
+  standing = kept_from (terms_of r).start (amount_of reserves (terms_of r).item) (terms_of r).price (terms_of r).leader (maybe_number_in (column r 14)) (maybe_number_in (column r 15)) (terms_of r).count;
+}
+item_reported reserves r fits = rw (fits_state (is_state (column r 6)) (number_in (column r 3)) fits.start.1) refl

@@ -7,7 +7,7 @@ use Rattle.settle.specs.declared.sale.Sold.{Sold}
 use Rattle.house_rows.specs.Asks.{HasItem}
 use Rattle.house_rows.specs.Editions.{BandTables}
 use Rattle.house_rows.specs.Found.{sales_to}
-use Rattle.house_rows.specs.Keeping.{FitsBy}
+use Rattle.house_rows.specs.Keeping.{FitsBy, IsKeptRowBy}
 use Rattle.house_rows.specs.Limits.{most_items, most_shown}
 use Rattle.house_rows.specs.Pages.{sale_of}
 use Rattle.house_rows.specs.Tables.{ItemRow}
@@ -27,6 +27,12 @@ ItemsFitBy editions test db = FitWhere test (FitsBy editions) (items_in db)
 abbrev pub PageFits : BandTables → ℕ → ℕ → Trees → Type 0
 PageFits editions category from db =
     AllByRecursion (FitsBy editions) (take most_shown
+    (filter (λ row. (row.item.terms.category == category) && nat_le from row.item.terms.item) (items_in db)))
+
+-- and of each what is sealed goes with what is shown
+abbrev pub PageIsKept : BandTables → ℕ → ℕ → Trees → Type 0
+PageIsKept editions category from db =
+    AllByRecursion (IsKeptRowBy editions) (take most_shown
     (filter (λ row. (row.item.terms.category == category) && nat_le from row.item.terms.item) (items_in db)))
 
 -- of what a member sells each item up to that of the last reserve shown has a number of ours, and those whose reserves are

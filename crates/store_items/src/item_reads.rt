@@ -1,12 +1,13 @@
 //! Look-ups in the table of items.
-ghost use Rattle.std.specs.Prelude.{◌≡◌, ◌<◌, ◌^◌, find, map, option_map, IfOk, IfSome, Some};
+ghost use Rattle.std.specs.Prelude.{◌≡◌, ◌<◌, ◌^◌, find, map, option_map, IfOk, IfSome, OnOk, Some};
 ghost use Rattle.sqlite.specs.Held.{state};
+ghost use Rattle.sqlite.specs.State.{HasCleanDisk};
 ghost use Rattle.house_rows.specs.Changed.{is_item};
 ghost use Rattle.house_rows.specs.Found.{auction_of};
 ghost use Rattle.house_rows.specs.Tables.{ItemRow};
 ghost use Rattle.std.specs.List.{AllByRecursion};
 ghost use Rattle.house_rows.specs.Fits.{ItemFits, StandingFits, TermsFit};
-ghost use Rattle.house_rows.specs.Keeping.{FitsBy, IsConsistentBy};
+ghost use Rattle.house_rows.specs.Keeping.{FitsBy, IsConsistentBy, IsKeptItemBy, IsKeptRowBy};
 ghost use Rattle.store_rows.specs.House.{Serves, ServesBy};
 ghost use Rattle.store_rows.specs.ItemRows.{items_in};
 ghost use Rattle.store_items.specs.ConsistentRows.{RowFitsAt};
@@ -32,6 +33,9 @@ pub fn item_at<S: Alter>(
     ensures fits { IfOk result (λ found. IfSome found ItemFits) }
     ensures is_consistent { IfOk result (λ found. IfSome found
         (λ it. IsConsistentBy rules.now.editions it.terms)) }
+    ensures kept { HasCleanDisk (state S.Store conn.new) → OnOk result
+        (IfSome (find (is_item number) (items_in (state S.Store conn.old).now.trees))
+        (IsKeptRowBy rules.now.editions)) }
 {
     let rows = rows_shown(
         conn,
@@ -57,6 +61,8 @@ pub fn auction_at<S: Alter>(
         (λ a. TermsFit a.terms × StandingFits a.standing)) }
     ensures is_consistent { IfOk result (λ found. IfSome found
         (λ a. IsConsistentBy rules.now.editions a.terms)) }
+    ensures kept { IfOk result (λ found. IfSome found
+        (λ a. IsKeptItemBy rules.now.editions a.terms a.standing)) }
 {
     let rows = rows_shown(
         conn,
@@ -120,6 +126,8 @@ pub fn all_items<S: Alter>(
     ensures fits { IfOk result (λ items. AllByRecursion ItemFits items.items) }
     ensures is_consistent { IfOk result (λ items. AllByRecursion
         (λ it. IsConsistentBy rules.now.editions it.terms) items.items) }
+    ensures kept { HasCleanDisk (state S.Store conn.new) → OnOk result (AllByRecursion
+        (IsKeptRowBy rules.now.editions) (items_in (state S.Store conn.old).now.trees)) }
 {
     let rows = rows_shown(
         conn,
@@ -143,6 +151,7 @@ pub(crate) fn auction_there<S: Alter>(
         (ItemFitsThere rules.now.editions item) }
     ensures fits { IfOk result (λ a. TermsFit a.terms) }
     ensures is_consistent { IfOk result (λ a. IsConsistentBy rules.now.editions a.terms) }
+    ensures kept { IfOk result (λ a. IsKeptItemBy rules.now.editions a.terms a.standing) }
 {
     match auction_at(conn, rules, item) {
         Ok(Some(auction)) => Ok(auction),

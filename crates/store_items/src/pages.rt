@@ -1,5 +1,5 @@
 //! Lists of items.
-ghost use Rattle.std.specs.Prelude.{◌≡◌, ◌==◌, ◌&&◌, filter, map, nat_le, take, IfOk};
+ghost use Rattle.std.specs.Prelude.{◌≡◌, ◌==◌, ◌&&◌, filter, map, nat_le, take, IfOk, OnOk};
 ghost use Rattle.std.specs.List.{AllByRecursion};
 ghost use Rattle.house_rows.specs.Fits.{ItemFits};
 ghost use Rattle.house_rows.specs.Found.{items_in};
@@ -8,11 +8,12 @@ ghost use Rattle.house_rows.specs.Taken.{start_of};
 ghost use Rattle.house_rows.specs.Limits.{most_shown};
 ghost use Rattle.house_rows.specs.Tables.{ItemRow};
 ghost use Rattle.sqlite.specs.Held.{state};
+ghost use Rattle.sqlite.specs.State.{HasCleanDisk};
 ghost use Rattle.store_rows.specs.House.{ServesBy};
 ghost use Rattle.store_rows.specs.ItemRows as stored;
 ghost use Rattle.store_rows.specs.Tables.{tables_in};
 ghost use Rattle.store_rows.specs.Frames.{Finds};
-ghost use Rattle.store_items.specs.LookUps.{PageFits};
+ghost use Rattle.store_items.specs.LookUps.{PageFits, PageIsKept};
 
 use crate::reads::item_list;
 use house_rows::{Item, KeepFault};
@@ -38,6 +39,8 @@ fn items_from<S: Alter>(
     ensures fits { IfOk result (λ items. AllByRecursion ItemFits items.items) }
     ensures is_consistent { IfOk result (λ items. AllByRecursion
         (λ it. IsConsistentBy rules.now.editions it.terms) items.items) }
+    ensures kept { HasCleanDisk (state S.Store conn.new) → OnOk result
+        (PageIsKept rules.now.editions category from (state S.Store conn.old).now.trees) }
 {
     let rows = page_rows(
         alloc,
@@ -67,6 +70,9 @@ pub fn items_in<S: Alter>(
     ensures fits { IfOk result (λ items. AllByRecursion ItemFits items.items) }
     ensures is_consistent { IfOk result (λ items. AllByRecursion
         (λ it. IsConsistentBy rules.now.editions it.terms) items.items) }
+    ensures kept { HasCleanDisk (state S.Store conn.new) → OnOk result
+        (PageIsKept rules.now.editions category (start_of from)
+        (state S.Store conn.old).now.trees) }
 {
     items_from(alloc, conn, rules, category, bound_of(from))
 }

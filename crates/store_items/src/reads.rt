@@ -3,9 +3,9 @@ ghost use Rattle.std.specs.Prelude.{◌≡◌, ◌++◌, true, [], ◌∷◌, If
 ghost use Rattle.std.specs.List.{AllByRecursion};
 ghost use Rattle.house_rows.specs.Editions.{bands_in};
 ghost use Rattle.house_rows.specs.Fits.{ItemFits, StandingFits, TermsFit};
-ghost use Rattle.house_rows.specs.Keeping.{IsConsistentBy};
+ghost use Rattle.house_rows.specs.Keeping.{IsConsistentBy, IsKeptItemBy, IsKeptRowBy};
 ghost use Rattle.house_rows.specs.declared.fault.KeepFault.TheVariants.{Damaged};
-ghost use Rattle.store_rows.specs.ItemRows.{amount_of, auction_by, item_by, kept_from, terms_by, with_met};
+ghost use Rattle.store_rows.specs.ItemRows.{amount_of, auction_by, item_by, kept_from, row_by, terms_by, with_met};
 ghost use Rattle.store_items.specs.Standing.{ItemHolds, TermsHold, is_bought, is_consistent};
 
 use cents::Cents;
@@ -83,6 +83,7 @@ fn with_sealed(
     }) }
     ensures fits { TermsFit terms → IfOk result (λ a. TermsFit a.terms × StandingFits a.standing) }
     ensures is_consistent { IfOk result (λ a. IsConsistentBy rules.now.editions a.terms) }
+    ensures kept { IfOk result (λ a. IsKeptItemBy rules.now.editions a.terms a.standing) }
     ensures damaged { is_consistent (bands_in rules.now.editions terms.item)
         terms (amount_of rules.now.reserves terms.item) top second ≡ true
         → ¬ (IsErrOf result Damaged) }
@@ -110,6 +111,7 @@ fn auction_read(rules: &Rules, row: &Row) -> Result<Auction, KeepFault>
     ensures value { IfOk result (λ a. a ≡ auction_by rules.now.reserves row.now) }
     ensures fits { IfOk result (λ a. TermsFit a.terms × StandingFits a.standing) }
     ensures is_consistent { IfOk result (λ a. IsConsistentBy rules.now.editions a.terms) }
+    ensures kept { IfOk result (λ a. IsKeptItemBy rules.now.editions a.terms a.standing) }
     ensures damaged { TermsHold rules.now.editions rules.now.reserves row.now
         → ¬ (IsErrOf result Damaged) }
 {
@@ -137,13 +139,15 @@ fn item_read(rules: &Rules, row: &Row) -> Result<Item, KeepFault>
     ensures value { IfOk result (λ it. it ≡ item_by rules.now.reserves row.now) }
     ensures fits { IfOk result ItemFits }
     ensures is_consistent { IfOk result (λ it. IsConsistentBy rules.now.editions it.terms) }
+    ensures kept { OnOk result (IsKeptRowBy rules.now.editions (row_by rules.now.reserves row.now)) }
     ensures damaged { ItemHolds rules.now.editions rules.now.reserves row.now
         → ¬ (IsErrOf result Damaged) }
 {
     let mut item = Item::read(row)?;
     let top = maybe_cents_at(row, 14)?;
     let second = maybe_cents_at(row, 15)?;
-    item.terms = with_sealed(rules, item.terms, top, second)?.terms;
+    let auction = with_sealed(rules, item.terms, top, second)?;
+    item.terms = auction.terms;
     Ok(item)
 }
 
@@ -155,6 +159,8 @@ pub(crate) fn first_auction(rules: &Rules, rows: &[Row]) -> Result<Option<Auctio
         (λ a. TermsFit a.terms × StandingFits a.standing)) }
     ensures is_consistent { IfOk result (λ found. IfSome found
         (λ a. IsConsistentBy rules.now.editions a.terms)) }
+    ensures kept { IfOk result (λ found. IfSome found
+        (λ a. IsKeptItemBy rules.now.editions a.terms a.standing)) }
     ensures damaged { IfSome (slice_get rows.now 0)
         (TermsHold rules.now.editions rules.now.reserves)
         → ¬ (IsErrOf result Damaged) }
@@ -172,6 +178,8 @@ pub(crate) fn first_item(rules: &Rules, rows: &[Row]) -> Result<Option<Item>, Ke
     ensures fits { IfOk result (λ found. IfSome found ItemFits) }
     ensures is_consistent { IfOk result (λ found. IfSome found
         (λ it. IsConsistentBy rules.now.editions it.terms)) }
+    ensures kept { OnOk result (IfSome (option_map (row_by rules.now.reserves)
+        (slice_get rows.now 0)) (IsKeptRowBy rules.now.editions)) }
     ensures damaged { IfSome (slice_get rows.now 0)
         (ItemHolds rules.now.editions rules.now.reserves)
         → ¬ (IsErrOf result Damaged) }
@@ -229,6 +237,7 @@ fn add_item(rules: &Rules, row: &Row, all: &mut Vec<Item>) -> Result<(), KeepFau
         → OnOk result (AllByRecursion ItemFits all.new.items) }
     ensures is_consistent { AllByRecursion (λ it. IsConsistentBy rules.now.editions it.terms) all.old.items
         → OnOk result (AllByRecursion (λ it. IsConsistentBy rules.now.editions it.terms) all.new.items) }
+    ensures kept { OnOk result (IsKeptRowBy rules.now.editions (row_by rules.now.reserves row.now)) }
     ensures damaged { ItemHolds rules.now.editions rules.now.reserves row.now
         → ¬ (IsErrOf result Damaged) }
 {
@@ -242,6 +251,8 @@ pub(crate) fn item_list(alloc: Global, rules: &Rules, rows: &[Row]) -> Result<Ve
     ensures fits { IfOk result (λ all. AllByRecursion ItemFits all.items) }
     ensures is_consistent { IfOk result (λ all. AllByRecursion
         (λ it. IsConsistentBy rules.now.editions it.terms) all.items) }
+    ensures kept { OnOk result (AllByRecursion (IsKeptRowBy rules.now.editions)
+        (map (row_by rules.now.reserves) rows.now)) }
     ensures damaged { AllByRecursion (ItemHolds rules.now.editions rules.now.reserves) rows.now
         → ¬ (IsErrOf result Damaged) }
 {

@@ -15,16 +15,16 @@ use Rattle.house_rows.specs.declared.item.OwnBid.{OwnBid}
 use Rattle.house_rows.specs.declared.item.OwnReserve.{OwnReserve}
 use Rattle.house_rows.specs.declared.item.Terms.{Terms}
 use Rattle.house_rows.specs.Fits.{IsItem, IsMember, ItemFits, OwnBidFits, OwnReserveFits, StandingFits, TermsFit}
-use Rattle.house_rows.specs.Found.{all_items, auction_at, auction_of, item_at, item_with_lot, own_bid, own_bids, own_reserves, reserves_in, standing_at, terms_at}
+use Rattle.house_rows.specs.Found.{all_items, auction_at, auction_of, item_at, item_with_lot, own_bid, own_bids, own_reserves, reserves_in, row_at, standing_at, terms_at}
 use Rattle.house_rows.specs.Changed.{is_item}
-use Rattle.house_rows.specs.Keeping.{AllConsistent, AreSound, ItemRowFits, RowFits, IsConsistentAt, IsConsistentIn}
+use Rattle.house_rows.specs.Keeping.{AllConsistent, AreSound, ItemRowFits, RowFits, IsConsistentAt, IsConsistentIn, IsKeptRow}
 use Rattle.house_rows.specs.Limits.{most_shown}
 use Rattle.house_rows.specs.Pages.{reserve_reported}
 use Rattle.house_rows.specs.Tables.{ItemRow, Tables, bands_for, row_opening}
 use Rattle.house_rows.specs.Text.{same_text}
 use Rattle.house_rows.proofs.Every.{every_as, every_map}
 use Rattle.house_rows.proofs.Put.{by_test}
-use Rattle.house_rows.proofs.Standing.{row_is_consistent}
+use Rattle.house_rows.proofs.Standing.{row_is_consistent, row_is_kept}
 
 pub find_fits : {A : Type 0} (P : A → Type 0) (p : A → Bool) (xs : List A) → AllByRecursion P xs → IfSome (find p xs) P
 find_fits P p [] all = tt
@@ -183,3 +183,10 @@ pub ok_items_are_consistent : {Z E : Type 0} (t u : Tables) → t ≡ u → (r :
     → IfOk r (λ v. AllByRecursion (λ (it : Item). IsConsistentIn u it.terms) v.items)
 ok_items_are_consistent t u same r xs is all =
     subst (λ (x : Tables). IfOk r (λ v. AllByRecursion (λ (it : Item). IsConsistentIn x it.terms) v.items)) same (ok_items (λ xs. AllByRecursion (λ (it : Item). IsConsistentIn t it.terms) xs) r xs is all)
+
+-- of sound tables what is sealed of each item goes with what is shown
+pub all_kept : (t : Tables) → AreSound t → AllByRecursion (IsKeptRow t) t.items
+all_kept t sound = every_as (RowFits t) (IsKeptRow t) t.items (λ row fits. row_is_kept (bands_for t row.item.terms.item) row fits) sound.items
+
+pub kept_at : (t : Tables) → AreSound t → (i : ℕ) → IfSome (row_at t i) (IsKeptRow t)
+kept_at t sound i = find_fits (IsKeptRow t) (is_item i) t.items (all_kept t sound)

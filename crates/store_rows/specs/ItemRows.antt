@@ -113,6 +113,14 @@ auction_by reserves r = record {
       (column r 3 ∷ column r 8 ∷ column r 9 ∷ column r 11 ∷ column r 12 ∷ column r 10 ∷ []);
 }
 
+-- the whole row that a query shows with what is sealed after the texts
+abbrev pub row_by : List ReserveRow → Row → ItemRow
+row_by reserves r = record {
+  item = item_by reserves r;
+  standing = kept_of (amount_of reserves (number_in (column r 0)))
+      (column r 3 ∷ column r 8 ∷ column r 9 ∷ column r 14 ∷ column r 15 ∷ column r 10 ∷ []);
+}
+
 -- ---- as a tree holds it
 
 abbrev pub item_columns : Row → Row

@@ -5,7 +5,8 @@ use Rattle.house_rows.specs.Fits.{ItemFits}
 use Rattle.house_rows.specs.Tables.{ItemRow}
 use Rattle.store_rows.specs.ItemRows as stored
 use Rattle.store_rows.proofs.Both.{ok_both}
-use Rattle.store_items.specs.LookUps.{PageFits}
+use Rattle.store_items.specs.LookUps.{PageFits, PageIsKept}
+use Rattle.store_items.proofs.ConsistentRows.{ok_as}
 use Rattle.store_items.proofs.ItemPages.{items_found, keeps_item}
 use Rattle.store_items.proofs.pages.items_in.Goals as goal
 
@@ -20,3 +21,8 @@ returns-clause-finds g c =
       damaged = λ clean fits. c.items_from.ensures.finds.damaged clean (subst (λ begin. PageFits c.args.rules.now.editions c.args.category begin db) (sym c.bound_of.ensures) fits);
       read = search rules;
     }
+
+pub returns-clause-kept : goal.returns-clause-kept
+returns-clause-kept g c = λ clean.
+    let db = (state g.S.Store c.args.conn.now).now.trees in
+    ok_as c.items_from.result (c.items_from.ensures.kept clean) (subst (λ begin. PageIsKept c.args.rules.now.editions c.args.category begin db) c.bound_of.ensures)

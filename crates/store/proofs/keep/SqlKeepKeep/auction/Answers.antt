@@ -10,7 +10,8 @@ use Rattle.store_items.specs.ConsistentRows.{RowFitsAt}
 use Rattle.store_rows.specs.Tables.{tables_in}
 use Rattle.store_items.proofs.Small.{no_item}
 use Rattle.store.specs.Kept.{IsKnown}
-use Rattle.store.proofs.Known.{auction_is_consistent, item_seen, known_row, known_serves, seen_auction, seen_is_consistent, works, failed_look}
+use Rattle.store.proofs.Absent.{no_row_kept}
+use Rattle.store.proofs.Known.{auction_is_consistent, found_is_kept, item_seen, known_row, known_serves, seen_auction, seen_is_consistent, seen_is_kept, works, failed_look}
 use Rattle.store.proofs.keep.SqlKeepKeep.auction.Goals as goal
 
 pub auction_at-requires : goal.auction_at-requires
@@ -54,7 +55,7 @@ invariant_of-self g c = record {
       subst (λ (db : Database). IsKnown c.self.inside.rules.editions c.self.inside.rules.reserves c.self.inside.counts c.self.inside.clock c.in-Ok-auction_at.found db.trees)
       (sym (c.in-Ok-auction_at.ensures.finds.read.same honest).0.now_is)
       (item_seen _ _ _ _ c.in-Ok.item c.in-Ok-auction_at.found _ (c.self.invariant.known (works _ _ c.self.view_is c.in_ok-serves.ensures.ok) before)
-      (c.in-Ok-auction_at.ensures.finds.value honest) c.in-Ok-auction_at.ensures.fits c.in-Ok-auction_at.ensures.is_consistent);
+      (c.in-Ok-auction_at.ensures.finds.value honest) c.in-Ok-auction_at.ensures.fits c.in-Ok-auction_at.ensures.is_consistent c.in-Ok-auction_at.ensures.kept);
   seen_fits = c.in-Ok-auction_at.ensures.fits;
   houses = search rules;
   one_schema = search rules;
@@ -73,3 +74,19 @@ returns-in_default-clause-answers g c = record {
   damaged = search rules;
   read = search rules;
 }
+
+pub returns-in-Some-clause-kept : goal.returns-in-Some-clause-kept
+returns-in-Some-clause-kept g c =
+    let same : c.in-Ok.item ≡ c.args.item = search rules in
+    rw (← c.self.view_is, ← same) (λ honest. seen_is_kept _ _ _ _ _ (c.self.invariant.known (works _ _ c.self.view_is c.in_ok-serves.ensures.ok) honest) c.in-Some.auction c.in-Ok.item c.in-Some.ensures.found.0 c.in-Some.ensures.found.1)
+
+pub returns-in-Ok-auction_at-clause-kept : goal.returns-in-Ok-auction_at-clause-kept
+returns-in-Ok-auction_at-clause-kept g c = λ honest.
+    let before : HasCleanDisk (state g.S.Store c.self.inside.conn) = omega (arith, c.in-Ok-auction_at.ensures.finds.read.crash.clean, honest) in
+    let same : c.in-Ok.item ≡ c.args.item = search rules in
+    rw (← c.self.view_is, ← same)
+    (found_is_kept _ _ _ _ _ (c.self.invariant.known (works _ _ c.self.view_is c.in_ok-serves.ensures.ok) before) c.in-Ok.item _ (c.in-Ok-auction_at.ensures.finds.value honest) c.in-Ok-auction_at.ensures.kept)
+
+pub returns-in_default-clause-kept : goal.returns-in_default-clause-kept
+unfolding tables_in
+returns-in_default-clause-kept g c = λ honest. rw (← c.self.view_is) (search (rules, no_row_kept))

@@ -6,7 +6,8 @@ use Rattle.sqlite.specs.State.{HasCleanDisk}
 use Rattle.store_items.specs.ConsistentRows.{RowFitsAt}
 use Rattle.store_rows.specs.Tables.{tables_in}
 use Rattle.store_items.proofs.Small.{no_item}
-use Rattle.store.proofs.Known.{known_row, known_serves, one_is_consistent, works, failed_look}
+use Rattle.store.proofs.Absent.{no_row_kept}
+use Rattle.store.proofs.Known.{known_row, known_serves, one_is_consistent, row_is_kept, works, failed_look}
 use Rattle.store.proofs.keep.SqlKeepKeep.item.Goals as goal
 
 pub item_at-requires : goal.item_at-requires
@@ -35,3 +36,13 @@ returns-in_default-clause-answers g c = record {
   damaged = search rules;
   read = search rules;
 }
+
+pub returns-in-Ok-item_at-clause-kept : goal.returns-in-Ok-item_at-clause-kept
+returns-in-Ok-item_at-clause-kept g c = λ honest.
+    let before : HasCleanDisk (state g.S.Store c.self.inside.conn) = omega (arith, c.in-Ok-item_at.ensures.finds.read.crash.clean, honest) in
+    let same : c.in-Ok.item ≡ c.args.item = search rules in
+    rw (← c.self.view_is, ← same) (row_is_kept _ _ _ _ _ (c.self.invariant.known (works _ _ c.self.view_is c.in_ok-serves.ensures.ok) before) c.in-Ok.item (c.in-Ok-item_at.ensures.kept honest))
+
+pub returns-in_default-clause-kept : goal.returns-in_default-clause-kept
+unfolding tables_in
+returns-in_default-clause-kept g c = λ honest. rw (← c.self.view_is) (search (rules, no_row_kept))

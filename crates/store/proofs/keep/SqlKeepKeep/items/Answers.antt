@@ -3,7 +3,7 @@ use Rattle.std.specs.Prelude.{Err}
 use Rattle.sqlite.specs.Held.{state}
 use Rattle.sqlite.specs.State.{HasCleanDisk}
 use Rattle.store_rows.specs.Tables.{tables_in}
-use Rattle.store.proofs.Known.{items_are_consistent, known_list, known_serves, works, failed_look}
+use Rattle.store.proofs.Known.{items_are_consistent, known_list, known_serves, rows_are_kept, works, failed_look}
 use Rattle.store.proofs.keep.SqlKeepKeep.items.Goals as goal
 
 pub all_items-requires : goal.all_items-requires
@@ -23,3 +23,9 @@ pub returns-in-Ok-clause-is_consistent : goal.returns-in-Ok-clause-is_consistent
 returns-in-Ok-clause-is_consistent g c = λ honest.
     let before : HasCleanDisk (state g.S.Store c.self.inside.conn) = omega (arith, c.in-Ok.ensures.finds.read.crash.clean, honest) in
     rw (← c.self.view_is) (items_are_consistent _ _ _ _ _ (c.self.invariant.known (works _ _ c.self.view_is c.in_ok-serves.ensures.ok) before) _ c.in-Ok.ensures.is_consistent)
+
+pub returns-in-Ok-clause-kept : goal.returns-in-Ok-clause-kept
+unfolding tables_in
+returns-in-Ok-clause-kept g c = λ honest.
+    let before : HasCleanDisk (state g.S.Store c.self.inside.conn) = omega (arith, c.in-Ok.ensures.finds.read.crash.clean, honest) in
+    rw (← c.self.view_is) (rows_are_kept _ _ _ _ _ (c.self.invariant.known (works _ _ c.self.view_is c.in_ok-serves.ensures.ok) before) _ (c.in-Ok.ensures.kept honest))

@@ -9,7 +9,8 @@ use Rattle.house_rows.specs.Tables.{ItemRow}
 use Rattle.store_rows.specs.ItemRows.{items_in}
 use Rattle.store_rows.specs.Tables.{tables_in}
 use Rattle.store_items.proofs.SoundItems.{page_sound}
-use Rattle.store.proofs.Known.{items_are_consistent, known_list, known_rows, known_serves, not_reported, report_sound, works}
+use Rattle.store.proofs.AbsentLists.{no_rows_kept}
+use Rattle.store.proofs.Known.{items_are_consistent, known_list, known_rows, known_serves, not_reported, report_sound, rows_are_kept, works}
 use Rattle.store.proofs.keep.SqlKeepKeep.items_in.Goals as goal
 
 pub items_in-requires : goal.items_in-requires
@@ -38,3 +39,15 @@ pub returns-in-Ok-items_in-clause-is_consistent : goal.returns-in-Ok-items_in-cl
 returns-in-Ok-items_in-clause-is_consistent g c = λ honest.
     let before : HasCleanDisk (state g.S.Store c.self.inside.conn) = omega (arith, c.in-Ok-items_in.ensures.finds.read.crash.clean, honest) in
     rw (← c.self.view_is) (items_are_consistent _ _ _ _ _ (c.self.invariant.known (works _ _ c.self.view_is c.in_ok-serves.ensures.ok) before) _ c.in-Ok-items_in.ensures.is_consistent)
+
+pub returns-in-Ok-items_in-clause-kept : goal.returns-in-Ok-items_in-clause-kept
+unfolding tables_in
+returns-in-Ok-items_in-clause-kept g c = λ honest.
+    let before : HasCleanDisk (state g.S.Store c.self.inside.conn) = omega (arith, c.in-Ok-items_in.ensures.finds.read.crash.clean, honest) in
+    let same : c.in-Ok.category ≡ c.args.category = search rules in
+    rw (← c.self.view_is, ← same) (rows_are_kept _ _ _ _ _ (c.self.invariant.known (works _ _ c.self.view_is c.in_ok-serves.ensures.ok) before) _ (c.in-Ok-items_in.ensures.kept honest))
+
+pub returns-in_default-clause-kept : goal.returns-in_default-clause-kept
+unfolding tables_in
+returns-in_default-clause-kept g c = λ honest.
+    rw (← c.self.view_is) (no_rows_kept (state g.S.Store c.self.inside.conn).now.trees c.args.category (search rules) (search rules) (start_of c.args.from))

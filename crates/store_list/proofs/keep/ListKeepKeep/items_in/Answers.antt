@@ -1,11 +1,13 @@
-use Rattle.std.proofs.Common.{List, Bool, take, filter, map, rules}
+use Rattle.std.proofs.Common.{List, Bool, take, filter, map, rules, subst}
 use Rattle.std.specs.Prelude.{◌==◌, ◌&&◌, nat_le}
 use Rattle.std.specs.List.{AllByRecursion}
 use Rattle.house_rows.specs.declared.item.Item.{Item}
 use Rattle.house_rows.specs.Fits.{ItemFits}
 use Rattle.house_rows.specs.Limits.{most_shown}
-use Rattle.house_rows.specs.Tables.{ItemRow}
-use Rattle.store_list.proofs.Fitting.{filter_fits, items_fit, ok_items, take_fits}
+use Rattle.house_rows.specs.Tables.{ItemRow, Tables}
+use Rattle.house_rows.specs.Taken.{start_of}
+use Rattle.house_rows.specs.Keeping.{AreSound, IsKeptRow}
+use Rattle.store_list.proofs.Fitting.{all_kept, filter_fits, items_fit, ok_items, ok_so, take_fits}
 use Rattle.store_list.proofs.Fitting.{first_are_consistent, ok_items_are_consistent}
 use Rattle.store_list.proofs.keep.ListKeepKeep.items_in.Goals as goal
 
@@ -28,3 +30,9 @@ returns-clause-fits c =
 pub returns-clause-is_consistent : goal.returns-clause-is_consistent
 returns-clause-is_consistent c = λ _. ok_items_are_consistent _ _ c.self.view_is c.in_category.result _ c.in_category.ensures.value
     (first_are_consistent _ most_shown (λ (it : Item). (it.terms.category == c.args.category) && nat_le c.args.from it.terms.item) c.self.invariant.sound)
+
+pub returns-clause-kept : goal.returns-clause-kept
+returns-clause-kept c = λ _.
+    let t : Tables = c.args.self.now in
+    let keeps : ItemRow → Bool = λ (row : ItemRow). (row.item.terms.category == c.args.category) && nat_le (start_of c.args.from) row.item.terms.item in
+    ok_so c.in_category.result (take_fits (IsKeptRow t) most_shown (filter keeps t.items) (filter_fits (IsKeptRow t) keeps t.items (all_kept t (subst AreSound c.self.view_is c.self.invariant.sound))))
