@@ -5,9 +5,10 @@ use Rattle.house_rows.specs.declared.change.Change.{Change}
 use Rattle.house_rows.specs.Asks.{IsFree}
 use Rattle.house_rows.specs.Changed.{changed}
 use Rattle.house_rows.specs.Keeping.{AreSound}
+use Rattle.house_rows.specs.Making.{ChangeRowsFit}
 use Rattle.house_rows.specs.Tables.{Tables}
 use Rattle.house_rows.proofs.SoundAfter.{sound_after}
-use Rattle.house.specs.Filled.{AreFreeInTurn, FitInTurn, IsBegun, after}
+use Rattle.house.specs.Filled.{AreFreeInTurn, FitInTurn, IsBegun, RowsFitInTurn, after}
 
 -- some changes are made, whose keys were free, and the rest fits
 pub record IsUnderWay {K : Type 0} (content : K → Tables) (is_failed : K → Bool) (is_honest : K → Type 0) (may_leave : K → Tables → Type 0) (old now : K) (made rest : List Change) : Type 0 where
@@ -37,6 +38,11 @@ free_more t (y ∷ made) x made_free free = (made_free.0, free_more (changed t y
 pub free_next : (t : Tables) (made : List Change) (x : Change) (rest : List Change) → AreFreeInTurn t (made ++ x ∷ rest) → IsFree (after t made) x
 free_next t [] x rest free = free.0
 free_next t (y ∷ made) x rest free = free_next (changed t y) made x rest free.1
+
+-- and of rows that fit those that it takes
+pub rows_next : (t : Tables) (made : List Change) (x : Change) (rest : List Change) → RowsFitInTurn t (made ++ x ∷ rest) → ChangeRowsFit (after t made) x
+rows_next t [] x rest fit = fit.0
+rows_next t (y ∷ made) x rest fit = rows_next (changed t y) made x rest fit.1
 
 -- and with one change more
 pub one_made : {K : Type 0} (content : K → Tables) (is_failed : K → Bool) (is_honest : K → Type 0) (may_leave : K → Tables → Type 0) (old now new : K) (made rest : List Change) (x : Change)

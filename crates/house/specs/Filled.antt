@@ -3,6 +3,7 @@ use Rattle.std.specs.Prelude.{◌≡◌, List, [], ◌∷◌, ◌++◌}
 use Rattle.house_rows.specs.declared.change.Change.{Change}
 use Rattle.house_rows.specs.Asks.{ChangeFits, IsFree}
 use Rattle.house_rows.specs.Changed.{changed}
+use Rattle.house_rows.specs.Making.{ChangeRowsFit}
 use Rattle.house_rows.specs.Tables.{Tables}
 
 -- the tables after changes in turn
@@ -19,6 +20,11 @@ FitInTurn t (change ∷ changes) = ChangeFits t change × FitInTurn (changed t c
 abbrev pub AreFreeInTurn : Tables → List Change → Type 0
 AreFreeInTurn t [] = Unit {0}
 AreFreeInTurn t (change ∷ changes) = IsFree t change × AreFreeInTurn (changed t change) changes
+
+-- the rows that making each change takes fit in the tables that those before it leave
+abbrev pub RowsFitInTurn : Tables → List Change → Type 0
+RowsFitInTurn t [] = Unit {0}
+RowsFitInTurn t (change ∷ changes) = ChangeRowsFit t change × RowsFitInTurn (changed t change) changes
 
 -- the tables after a beginning of the changes
 pub record IsBegun (t : Tables) (changes : List Change) (now : Tables) : Type 0 where

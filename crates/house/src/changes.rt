@@ -3,7 +3,7 @@ ghost use Rattle.std.specs.Prelude.{◌≡◌, ◌⊎◌, ◌↔◌, OnOk, OnErr
 ghost use Rattle.house_rows.specs.declared.fault.KeepFault.TheVariants.{Store, Damaged};
 ghost use Rattle.house_rows.specs.Keeping.{AreSound};
 ghost use Rattle.house_rows.specs.Tables.{Tables};
-ghost use Rattle.house.specs.Filled.{AreFreeInTurn, FitInTurn, IsBegun, after};
+ghost use Rattle.house.specs.Filled.{AreFreeInTurn, FitInTurn, IsBegun, RowsFitInTurn, after};
 
 use house_rows::{Change, Keep, KeepFault};
 
@@ -15,9 +15,12 @@ pub fn fill<K: Keep>(keep: &mut K, changes: &[Change<'_>]) -> Result<(), KeepFau
     ensures err { K.is_honest keep.new → K.is_failed keep.new ≡ false
         → OnErr result (IsBegun (K.content keep.old) changes.now (K.content keep.new)) }
     ensures store { K.is_failed keep.old ≡ false → (IsErrOf result Store ↔ (K.is_failed keep.new ≡ true)) }
-    // Damaged has a cause: tables that aren't sound, or a key that is taken. After Ok no key was taken.
+    // Damaged has a cause: a row that a change takes and that doesn't fit, so tables that aren't sound, or
+    // a key that is taken. After Ok no key was taken.
     ensures damaged { K.is_honest keep.new → AreSound (K.content keep.old) → AreFreeInTurn (K.content keep.old) changes.now
         → ¬ (IsErrOf result Damaged) }
+    ensures rows { K.is_honest keep.new → RowsFitInTurn (K.content keep.old) changes.now
+        → AreFreeInTurn (K.content keep.old) changes.now → ¬ (IsErrOf result Damaged) }
     ensures taken { K.is_honest keep.new → OnOk result (AreFreeInTurn (K.content keep.old) changes.now) }
     ensures honest { K.is_honest keep.new → K.is_honest keep.old }
     ensures stays { K.is_failed keep.old ≡ true → K.is_failed keep.new ≡ true }
