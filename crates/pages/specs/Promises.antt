@@ -1,6 +1,6 @@
 -- What the functions over a keep promise, by the record of the keep's ghosts. A contract over
 -- `K: Keep` has that record as `K.Keep`.
-use Rattle.std.specs.Prelude.{◌≡◌, ℕ, IfOk, List, OnErr, Result}
+use Rattle.std.specs.Prelude.{◌≡◌, ℕ, IfOk, List, OnErr, OnOk, Result}
 use Rattle.settle.specs.declared.zone.Zone.{Zone}
 use Rattle.house_rows.specs.Answers.{Reads}
 use Rattle.house_rows.specs.declared.fault.KeepFault.{KeepFault}
@@ -19,7 +19,7 @@ use Rattle.pages_laws.specs.ByTables.{page_by}
 use Rattle.pages_text.specs.declared.fault.PageFault.{PageFault}
 use Rattle.pages_text.specs.Faults.{PageFaults}
 use Rattle.pages_text.specs.Fits.{PageFits}
-use Rattle.pages.specs.Showing.{IsGrown, IsReported}
+use Rattle.pages.specs.Showing.{BeginsWith, IsGrown, IsReported}
 use Rattle.pages.specs.Taken.{IsTreeUndamaged, PageRowsFit}
 
 -- What is promised of the page that a query has in the tables, as `page_in` says it. As long as the
@@ -50,8 +50,8 @@ pub record ReadsPage {K : Type 0} (keep : Ghosts K) (old new : K) (result : Resu
       → IsUndamaged result
   pub read : Reads keep old new
 
--- The same of its text, which comes after what a buffer has. Whatever the disk did, after a fault
--- and where the read is refused the buffer has what it had.
+-- The same of its text, which comes after what a buffer has. Whatever the disk did, the buffer keeps
+-- what it had, and after a fault and where the read is refused it has nothing else.
 pub record ShowsPage {K : Type 0} (keep : Ghosts K) (old new : K)
     (result : Result (Result (Unit {0}) Refusal) KeepFault) (zone : Zone) (caller : ℕ)
     (query : Query) (before after : List ℕ) : Type 0 where
@@ -63,6 +63,7 @@ pub record ShowsPage {K : Type 0} (keep : Ghosts K) (old new : K)
       IsReported zone (page_of settings h caller query) report before after)
   pub err : OnErr result (after ≡ before)
   pub refused : IfOk result (λ report. OnErr report (after ≡ before))
+  pub front : IfOk result (λ report. OnOk report (BeginsWith before after))
   pub faults : Faults result (keep.is_honest new) (keep.is_failed new) (keep.content old)
   pub damaged : keep.is_honest new → PageRowsFit (keep.content old) caller query
       → IsUndamaged result

@@ -22,6 +22,11 @@ abbrev pub is_refused : Page → Bool
 is_refused (Refused refusal) = true
 is_refused _ = false
 
+-- what was there stands first
+pub record BeginsWith (old new : List ℕ) : Type 0 where
+  pub rest : List ℕ
+  pub parts : new ≡ old ++ rest
+
 -- the text of the page comes after what was there, or the read is refused and nothing does
 abbrev pub IsReported : Zone → Page → Result (Unit {0}) Refusal → List ℕ → List ℕ → Type 0
 IsReported zone page (Ok u) old new =

@@ -1,8 +1,8 @@
 //! The page of a read, as text.
-ghost use Rattle.std.specs.Prelude.{◌≡◌, IfOk, OnErr};
+ghost use Rattle.std.specs.Prelude.{◌≡◌, IfOk, OnErr, OnOk};
 ghost use Rattle.pages_text.specs.Fits.{PageFits};
 ghost use Rattle.pages.specs.Promises.{ShowsPage};
-ghost use Rattle.pages.specs.Showing.{IsReported};
+ghost use Rattle.pages.specs.Showing.{BeginsWith, IsReported};
 
 use crate::reading::read;
 use house_rows::{Keep, KeepFault, Page, Query, Refusal};
@@ -11,7 +11,8 @@ use settle::Zone;
 use std::alloc::{AllocError, Global};
 
 /// Appends the page of a read to a buffer, or says why it is refused. A statement goes by the
-/// zone that is handed in. After an `Err`, and where the read is refused, the buffer has what it had.
+/// zone that is handed in. The buffer keeps what it had; after an `Err`, and where the read is refused,
+/// it has nothing else.
 pub fn show<K: Keep>(
     alloc: Global,
     keep: &mut K,
@@ -31,6 +32,7 @@ pub fn show<K: Keep>(
 }
 
 // Appends a page to a buffer, or says why it is refused.
+#[tactic(auto, using(crate::proofs::Fronts::begins))]
 fn show_page(
     alloc: Global,
     zone: &Zone,
@@ -42,6 +44,7 @@ fn show_page(
         IsReported zone.now page.now report out.old.items out.new.items) }
     ensures err { OnErr result (out.new.items ≡ out.old.items) }
     ensures refused { IfOk result (λ report. OnErr report (out.new.items ≡ out.old.items)) }
+    ensures front { IfOk result (λ report. OnOk report (BeginsWith out.old.items out.new.items)) }
 {
     if let Page::Refused(refusal) = page {
         return Ok(Err(*refusal));
