@@ -244,7 +244,9 @@ impl Standing {
 
     /// The least maximum that is taken of a bidder who doesn't lead, in cents.
     pub fn floor(&self, bands: &Bands) -> u64
-        ensures { (bids : List TheBid) → self.now ≡ standing_of bands.now (opening_of self.now) bids
+        ensures any { result
+            ≡ (if self.now.count == 0 then self.now.start else over bands.now self.now.price) }
+        ensures by_bids { (bids : List TheBid) → self.now ≡ standing_of bands.now (opening_of self.now) bids
             → result ≡ floor bands.now (opening_of self.now) bids }
     {
         floor_of(bands, self.start, self.price, self.count)

@@ -19,7 +19,7 @@ returns-then-self-ge-MOST_BIDS-clause-verdict c = λ bids e.
           grind (arith, nat_tests, higher _ _ _ bids _ _ e led high))
       | else-eq+else-value-floor w ↦ (let ne : c.args.self.now.leader ≢ Some c.args.member = search rules in
           let ge : w.floor-floor.result ≤ c.args.maximum = search rules in
-          grind (arith, nat_tests, met _ _ _ bids _ _ _ e ne (w.floor-floor.ensures bids e) ge))
+          grind (arith, nat_tests, met _ _ _ bids _ _ _ e ne (w.floor-floor.ensures.by_bids bids e) ge))
     ]
 
 pub returns-clause-verdict : goal.returns-clause-verdict
@@ -31,5 +31,5 @@ returns-clause-verdict c = λ bids e.
           grind (arith, nat_tests, higher _ _ _ bids _ _ e led high))
       | else-eq+else-value-floor w ↦ (let ne : c.args.self.now.leader ≢ Some c.args.member = search rules in
           let ge : w.floor-floor.result ≤ c.args.maximum = search rules in
-          grind (arith, nat_tests, met _ _ _ bids _ _ _ e ne (w.floor-floor.ensures bids e) ge))
+          grind (arith, nat_tests, met _ _ _ bids _ _ _ e ne (w.floor-floor.ensures.by_bids bids e) ge))
     ]
