@@ -1,5 +1,5 @@
 //! Objects and lists as trees in memory.
-ghost use Rattle.std.specs.Prelude.{◌≡◌, ◌∷◌, ◌++◌, [], IfOk, IsTrue, OnOk, map};
+ghost use Rattle.std.specs.Prelude.{◌≡◌, ◌∷◌, ◌++◌, ℕ, [], IfOk, IsTrue, OnErr, OnOk, drop, map};
 ghost use Rattle.serde_json.specs.View.{members_view, view};
 ghost use Rattle.pages_json.specs.Fields.{are_keys, field_tree, member_of};
 ghost use Rattle.pages_json.specs.Words.{AreInOrder, array_of, is_key, name_in, object_of, put_all};
@@ -39,15 +39,19 @@ fn name_in(key: &str) -> &str
     &key[2..key.len() - 2]
 }
 
-/// Puts these members into a map.
+/// Puts these members into a map. After an `Err` some are put, up to one of them: with the others all
+/// would be there.
 pub fn grow_members(
     alloc: Global,
     members: &mut Map<String, Value>,
     fields: &[(&str, Field<'_>)],
 ) -> Result<(), AllocError>
     requires { IsTrue (are_keys fields.now) }
-    ensures { OnOk result (members_view members.new.entries
+    ensures ok { OnOk result (members_view members.new.entries
         ≡ put_all (map member_of fields.now) (members_view members.old.entries)) }
+    ensures err { OnErr result ((place : ℕ)
+        × (put_all (map member_of (drop place fields.now)) (members_view members.new.entries)
+        ≡ put_all (map member_of fields.now) (members_view members.old.entries))) }
 {
     for field in fields {
         let value = grow_value(alloc, &field.1)?;
