@@ -175,6 +175,15 @@ FirstGivenFit member from t = GivenFit member (start_of from) t.feedback
 abbrev pub AllPublishedFit : Tables → Type 0
 AllPublishedFit t = FitWhere (λ q. is_some q.answer) QuestionFits t.questions
 
+-- the rows that everybody may see: of bids, of watches and of questions without an answer nothing is
+-- asked
+pub record PublicRowsFit (t : Tables) : Type 0 where
+  pub members : AllByRecursion MemberFits t.members
+  pub categories : AllByRecursion CategoryFits t.categories
+  pub items : AllByRecursion (RowFits t) t.items
+  pub questions : AllPublishedFit t
+  pub feedback : AllByRecursion FeedbackFits t.feedback
+
 -- the items to whose sale a member may be a party
 abbrev pub SalesFit : ℕ → Tables → Type 0
 SalesFit member = ItemsFitWhere (may_be_party member)

@@ -1,13 +1,11 @@
 -- What two keeps have alike. Start here.
 use Rattle.std.specs.Prelude.{◌≡◌, ◌⊎◌, ℕ, Bool, true, false, Result, OnOk, IsErrOf}
-use Rattle.std.specs.List.{AllByRecursion}
 use Rattle.house_rows.specs.declared.fault.KeepFault.{KeepFault}
 use Rattle.house_rows.specs.declared.fault.KeepFault.TheVariants.{Store, Damaged}
-use Rattle.house_rows.specs.Fits.{CategoryFits, FeedbackFits, MemberFits}
 use Rattle.house_rows.specs.Found.{all_items, all_published, waiting_for}
-use Rattle.house_rows.specs.Keeping.{AreSound, RowFits}
+use Rattle.house_rows.specs.Keeping.{AreSound}
 use Rattle.house_rows.specs.Tables.{Tables}
-use Rattle.house_rows.specs.Taken.{AllPublishedFit, AllWaitingFit}
+use Rattle.house_rows.specs.Taken.{AllWaitingFit, PublicRowsFit}
 
 -- the same members and categories, under the same clock
 pub record HaveSamePeople (t u : Tables) : Type 0 where
@@ -32,15 +30,7 @@ pub record HaveSameView (member : ℕ) (t u : Tables) : Type 0 where
   pub rows : HaveSameRows t u
   pub waiting : waiting_for t member ≡ waiting_for u member
 
--- the rows that everybody may see fit
-pub record PublicRowsFit (t : Tables) : Type 0 where
-  pub members : AllByRecursion MemberFits t.members
-  pub categories : AllByRecursion CategoryFits t.categories
-  pub items : AllByRecursion (RowFits t) t.items
-  pub questions : AllPublishedFit t
-  pub feedback : AllByRecursion FeedbackFits t.feedback
-
--- and those by which the questions are found that wait for a member
+-- the rows that everybody may see fit, and those by which the questions are found that wait for a member
 pub record ViewRowsFit (member : ℕ) (t : Tables) : Type 0 where
   pub public : PublicRowsFit t
   pub waiting : AllWaitingFit member t

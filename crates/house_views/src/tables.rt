@@ -1,10 +1,9 @@
 //! Whether two keeps have the same rows, list by list.
 ghost use Rattle.std.specs.Prelude.{◌≡◌, ◌↔◌, true, IfOk};
 ghost use Rattle.house_rows.specs.Found.{all_items, all_published, waiting_for};
-ghost use Rattle.house_rows.specs.Taken.{AllWaitingFit, IsUndamaged};
+ghost use Rattle.house_rows.specs.Taken.{AllWaitingFit, IsUndamaged, PublicRowsFit};
 ghost use Rattle.house_views.specs.Compares.{Compares};
 ghost use Rattle.house_views.specs.Views.{HaveSamePeople, HaveSameRows, HaveSameTalk, PairFaults};
-ghost use Rattle.house_views.specs.Views.{PublicRowsFit};
 
 use crate::same::are_same;
 use house_rows::{Keep, KeepFault};

@@ -3,10 +3,10 @@ ghost use Rattle.std.specs.Prelude.{◌≡◌, ◌↔◌, true, IfOk};
 ghost use Rattle.house_rows.specs.Found.{waiting_for};
 ghost use Rattle.house_rows.specs.Questions.{waiting};
 ghost use Rattle.house_rows.specs.Runs.{Agrees};
-ghost use Rattle.house_rows.specs.Taken.{AllWaitingFit};
+ghost use Rattle.house_rows.specs.Taken.{AllWaitingFit, PublicRowsFit};
 ghost use Rattle.house_rows.specs.Views.{public_view};
 ghost use Rattle.house_views.specs.Compares.{Compares, OverHistories};
-ghost use Rattle.house_views.specs.Views.{HaveSameRows, HaveSameView, PublicRowsFit, ViewRowsFit};
+ghost use Rattle.house_views.specs.Views.{HaveSameRows, HaveSameView, ViewRowsFit};
 
 use crate::tables::{have_same_open, have_same_rows};
 use house_rows::{Keep, KeepFault};

@@ -1,3 +1,2 @@
 pub mod Record
-pub mod Taken
 pub mod Promises

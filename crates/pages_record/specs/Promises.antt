@@ -12,7 +12,7 @@ use Rattle.house_rows.specs.declared.settings.Settings.{Settings}
 use Rattle.house_rows.specs.History.{History}
 use Rattle.house_rows.specs.Keeping.{Faults}
 use Rattle.house_rows.specs.Tables.{Tables, tables_of}
-use Rattle.house_rows.specs.Taken.{IsUndamaged}
+use Rattle.house_rows.specs.Taken.{IsUndamaged, PublicRowsFit}
 use Rattle.house_rows.specs.Views.{public_view}
 use Rattle.serde_json.specs.Data.{Data}
 use Rattle.serde_json.specs.View.{members_view, view}
@@ -22,7 +22,6 @@ use Rattle.pages_text.specs.declared.fault.PageFault.{PageFault}
 use Rattle.pages_text.specs.declared.fault.PageFault.TheVariants.{Keep}
 use Rattle.pages_text.specs.Faults.{PageFaults}
 use Rattle.pages_record.specs.Record.{record_by, record_text, record_tree}
-use Rattle.pages_record.specs.Taken.{PublicRowsFit}
 
 -- As long as the disk returns what was written, a text of the tables comes after what a buffer has,
 -- and the call is `Damaged` only where a row that everybody may see doesn't fit. Whatever the disk did,
