@@ -16,7 +16,7 @@ use Rattle.house_rows.specs.Asks.{IsFree}
 use Rattle.house_rows.specs.Fits.{BidRowFits, CategoryFits, EditionFits, FeedbackFits, IsMoment, ItemFits, MemberFits, QuestionFits, WatchRowFits, ReserveFits}
 use Rattle.house_rows.specs.Editions.{BandTables, bands_in}
 use Rattle.house_rows.specs.Changed.{kept_met}
-use Rattle.house_rows.specs.Found.{terms_at}
+use Rattle.house_rows.specs.Found.{is_watched, row_at, terms_at}
 use Rattle.house_rows.specs.History.{counted}
 use Rattle.house_rows.specs.Limits.{most_bids, most_categories, most_cents, most_editions, most_items, most_members, most_watches}
 use Rattle.house_rows.specs.Tables.{ItemRow, Tables, band_tables, row_opening}
@@ -95,6 +95,10 @@ IsKeptRowBy editions row = IsKeptItemBy editions row.item.terms row.standing
 
 abbrev pub IsKeptRow : Tables → ItemRow → Type 0
 IsKeptRow t row = IsKeptRowBy (band_tables t) row
+
+-- so of each item that a member watches
+abbrev pub AreKeptWatched : ℕ → Tables → Type 0
+AreKeptWatched member t = (item : ℕ) → is_watched t member item ≡ true → IfSome (row_at t item) (IsKeptRow t)
 
 -- every item's row that passes a test is consistent, each by its own band table
 abbrev pub AllConsistent : (ItemRow → Bool) → Tables → Type 0

@@ -7,7 +7,7 @@ ghost use Rattle.house_rows.specs.Asks.{ChangeFits};
 ghost use Rattle.house_rows.specs.Consistent.{AskedConsistent, AuctionConsistent, DueConsistent, ItemConsistent, ItemsConsistent, OwnBidsConsistent, SalesConsistent, TermsConsistent};
 ghost use Rattle.house_rows.specs.Fits.{CategoryFits, FeedbackFits, IsItem, IsMember, IsMoment, IsWithin, ItemFits, MemberFits, OwnBidFits, OwnReserveFits, QuestionFits, StandingFits, TermsFit};
 ghost use Rattle.house_rows.specs.Found.{all_items, all_published, ask_count, auction_at, best_of, category_at, category_named, counts_of, due_at, feedback_to, first_waiting, is_given, is_watched, item_at, item_with_lot, items_in, items_watched, member_named, own_bids, own_reserves, published_on, question_at, questions_of, reserve_at, row_at, sales_to, standing_at, terms_at, waiting_for, watch_count};
-ghost use Rattle.house_rows.specs.Keeping.{AreSound, IsKeptRow, RowFits};
+ghost use Rattle.house_rows.specs.Keeping.{AreKeptWatched, AreSound, IsKeptRow, RowFits};
 ghost use Rattle.house_rows.specs.Limits.{most_categories, most_items, most_shown};
 ghost use Rattle.house_rows.specs.Making.{IsApplied};
 ghost use Rattle.house_rows.specs.Pages.{member_at, ratings_of};
@@ -279,7 +279,9 @@ pub trait Keep {
         ensures answers { IsAnswered content is_failed is_honest may_leave self.old self.new result
             (λ t v. v.items ≡ items_watched t member) (WatchedFit member) }
         ensures fits { IfOk result (λ v. AllByRecursion ItemFits v.items) }
-        ensures is_consistent { is_honest self.new → ItemsConsistent (content self.old) result };
+        ensures is_consistent { is_honest self.new → ItemsConsistent (content self.old) result }
+        ensures kept { is_honest self.new
+            → OnOk result (AreKeptWatched member (content self.old)) };
 
     /// The questions that wait for a member's answer, by item, asker and number.
     fn waiting_for(&mut self, member: u64) -> Result<Vec<Question>, KeepFault>

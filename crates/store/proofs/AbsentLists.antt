@@ -1,5 +1,5 @@
 -- A list by a number of more than 32 bits is empty.
-use Rattle.std.proofs.Common.{◌≡◌, ◌<◌, ◌≤◌, ◌^◌, ◌&&◌, ◌∙◌, ℕ, List, [], ◌∷◌, Bool, true, false, not, Option, Some, None, cond, find, filter, map, refl, ap, arith, subst, sym}
+use Rattle.std.proofs.Common.{◌≡◌, ◌<◌, ◌≤◌, ◌^◌, ◌&&◌, ◌∙◌, ℕ, List, [], ◌∷◌, Bool, true, false, not, Option, Some, None, cond, find, filter, map, refl, ap, arith, subst, sym, true≢false}
 use Rattle.std.specs.Prelude.{◌==◌, is_some, nat_le, nat_lt, take, unwrap_or}
 use Rattle.std.specs.List.{AllByRecursion, list_any}
 use Rattle.std.proofs.lemmas.List.Elements.{filter-append}
@@ -8,7 +8,7 @@ use Rattle.settle.specs.Statement.{is_party}
 use Rattle.proxy.specs.Bids.{is_leader}
 use Rattle.house_rows.specs.Changed.{is_item}
 use Rattle.house_rows.specs.Found.{feedback_to, first_waiting, is_watched, items_in, items_watched, own_bid, own_bids, own_reserves, published_on, questions_of, reserves_in, sales_in, sales_to, sells, waiting_for}
-use Rattle.house_rows.specs.Keeping.{AllConsistent, IsConsistentIn, IsKeptRow}
+use Rattle.house_rows.specs.Keeping.{AllConsistent, AreKeptWatched, IsConsistentIn, IsKeptRow}
 use Rattle.house_rows.specs.Limits.{most_shown}
 use Rattle.house_rows.specs.Pages.{sale_of}
 use Rattle.house_rows.specs.Tables.{ItemRow}
@@ -93,6 +93,10 @@ module _ (db : Trees) (n : ℕ) (high : 2 ^ 32 ≤ n) (low : n < 2 ^ 64) where
       let q : ItemRow → Bool = λ (row : ItemRow). (row.item.terms.category == n) && nat_le from row.item.terms.item in
       subst (λ (l : List ItemRow). AllByRecursion (IsKeptRow (tables_in db)) (take most_shown l))
       (sym ((none_narrower p q (λ row other. first_fails (row.item.terms.category == n) (nat_le from row.item.terms.item) other) (stored.items_in db) (no_items_in db n high low)).1)) tt
+
+  pub no_watched_kept : AreKeptWatched n (tables_in db)
+  unfolding tables_in
+  no_watched_kept item is = absurd (true≢false (sym is ∙ no_watcher db n high low item))
 
   none_bid : (from : ℕ) (its : List Item) → filter (λ (b : OwnBid). nat_lt 0 b.mine && nat_le from b.item) (map (own_bid (tables_in db) n) its) ≡ []
   none_bid from [] = refl

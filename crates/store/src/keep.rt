@@ -438,7 +438,7 @@ impl<S: Alter> Keep for SqlKeep<S> {
         report!(self, all_feedback(self.alloc, &mut self.conn))
     }
 
-    #[tactic(auto, using(crate::proofs::AbsentLists::no_items_watched))]
+    #[tactic(auto, using(crate::proofs::AbsentLists::no_items_watched, crate::proofs::AbsentLists::no_watched_kept))]
     fn watches_of(&mut self, member: u64) -> Result<Vec<Item>, KeepFault> {
         self.serves()?;
         let Ok(member) = u32::try_from(member) else {

@@ -1,11 +1,12 @@
 -- Items whose rows fit, and are consistent, each with its own band table.
-use Rattle.std.specs.Prelude.{◌≡◌, ℕ, Bool, filter, Some, IfSome}
+use Rattle.std.specs.Prelude.{◌≡◌, ℕ, Bool, filter, find, Some, IfSome}
 use Rattle.std.specs.List.{AllByRecursion}
 use Rattle.sqlite_trees.specs.Tree.{Trees}
+use Rattle.house_rows.specs.Changed.{is_item}
 use Rattle.house_rows.specs.Editions.{BandTables}
 use Rattle.house_rows.specs.Fits.{TermsFit}
 use Rattle.house_rows.specs.Found.{row_at, terms_at}
-use Rattle.house_rows.specs.Keeping.{FitsBy, IsConsistentBy}
+use Rattle.house_rows.specs.Keeping.{FitsBy, IsConsistentBy, IsKeptRowBy}
 use Rattle.house_rows.specs.Tables.{ItemRow}
 use Rattle.store_rows.specs.ItemRows.{items_in}
 use Rattle.store_rows.specs.Tables.{tables_in}
@@ -25,6 +26,10 @@ ItemIsConsistent editions db item = IfSome (terms_at (tables_in db) item) (IsCon
 -- the row of an item fits, if there is one
 abbrev pub RowFitsAt : BandTables → Trees → ℕ → Type 0
 RowFitsAt editions db item = AllByRecursion (λ row. row.item.terms.item ≡ item → FitsBy editions row) (items_in db)
+
+-- what is sealed of the item of a number goes with what is shown, if there is one
+abbrev pub IsKeptAt : BandTables → Trees → ℕ → Type 0
+IsKeptAt editions db item = IfSome (find (is_item item) (items_in db)) (IsKeptRowBy editions)
 
 -- there is an item of a number, whose row fits and is consistent
 pub record HasStandingItem (editions : BandTables) (db : Trees) (item : ℕ) : Type 0 where

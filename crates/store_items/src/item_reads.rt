@@ -10,7 +10,7 @@ ghost use Rattle.house_rows.specs.Fits.{ItemFits, StandingFits, TermsFit};
 ghost use Rattle.house_rows.specs.Keeping.{FitsBy, IsConsistentBy, IsKeptItemBy, IsKeptRowBy};
 ghost use Rattle.store_rows.specs.House.{Serves, ServesBy};
 ghost use Rattle.store_rows.specs.ItemRows.{items_in};
-ghost use Rattle.store_items.specs.ConsistentRows.{RowFitsAt};
+ghost use Rattle.store_items.specs.ConsistentRows.{IsKeptAt, RowFitsAt};
 ghost use Rattle.store_rows.specs.Frames.{Finds};
 ghost use Rattle.store_items.specs.LookUps.{ItemFitsThere, number_with_lot};
 
@@ -34,8 +34,7 @@ pub fn item_at<S: Alter>(
     ensures is_consistent { IfOk result (λ found. IfSome found
         (λ it. IsConsistentBy rules.now.editions it.terms)) }
     ensures kept { HasCleanDisk (state S.Store conn.new) → OnOk result
-        (IfSome (find (is_item number) (items_in (state S.Store conn.old).now.trees))
-        (IsKeptRowBy rules.now.editions)) }
+        (IsKeptAt rules.now.editions (state S.Store conn.old).now.trees number) }
 {
     let rows = rows_shown(
         conn,

@@ -15,7 +15,7 @@ use Rattle.house_rows.specs.Taken.{FitWhere}
 use Rattle.house_rows.specs.Tables.{ItemRow}
 use Rattle.house_rows.specs.Watches.{WatchRow, is_watch}
 use Rattle.house_rows.specs.declared.item.Item.{Item}
-use Rattle.house_rows.proofs.Every.{every_as}
+use Rattle.house_rows.proofs.Every.{every_as, some_has}
 use Rattle.house_rows.proofs.Put.{by_test}
 use Rattle.store_rows.specs.House.{IsHouse}
 use Rattle.store_rows.specs.ItemRows.{items_in}
@@ -73,6 +73,16 @@ watched_fit_at db editions member numbers are fits =
     every_as (λ (row : ItemRow). list_any (is_watch member (number_of row)) watches ≡ true → FitsBy editions row) (λ (row : ItemRow). number_of row ≡ n → FitsBy editions row) (items_in db)
     (λ row fit same. fit (subst (λ (i : ℕ). list_any (is_watch member i) watches ≡ true) (sym same) is)) fits in
     each_among (RowFitsAt editions db) numbers (λ n is. here n (sym (ap (list_any (λ m. n == m)) are ∙ watched_among member n watches) ∙ is))
+
+-- what is so of each of the numbers is so of each item that the member watches
+pub watched_kept : (P : ℕ → Type 0) (db : Trees) (member : ℕ) (numbers : List ℕ) → numbers ≡ map (λ (w : WatchRow). w.item) (filter (λ w. w.member == member) (sorted_watches db))
+    → AllByRecursion P numbers → (n : ℕ) → is_watched (tables_in db) member n ≡ true → P n
+unfolding tables_in
+watched_kept P db member numbers are all n is =
+    let some = some_has P (λ m. n == m) numbers all (ap (list_any (λ m. n == m)) are ∙ watched_among member n (sorted_watches db) ∙ is) in
+    let here = some.2 in
+    let same : some.0 ≡ n = grind (arith, nat_tests, here) in
+    subst P same some.1
 
 -- in sound tables the rows of a member's watches fit, and those of the items that it watches
 pub watches_sound : (member : ℕ) (db : Trees) → AreSound (tables_in db) → WatchesFit member db

@@ -1,5 +1,5 @@
 -- What members watch, in rows of the database.
-use Rattle.std.specs.Prelude.{◌≡◌, ◌==◌, ◌<◌, AllPairs, ℕ, List, find, filter, map, option_map}
+use Rattle.std.specs.Prelude.{◌≡◌, ◌==◌, ◌<◌, AllPairs, ℕ, List, true, find, filter, map, option_map}
 use Rattle.std.specs.List.{AllByRecursion}
 use Rattle.sqlite_trees.specs.Tree.{Trees}
 use Rattle.house_rows.specs.Changed.{is_item}
@@ -11,6 +11,7 @@ use Rattle.house_rows.specs.Taken.{FitWhere}
 use Rattle.house_rows.specs.Tables.{ItemRow}
 use Rattle.house_rows.specs.Watches.{WatchRow}
 use Rattle.house_rows.specs.declared.item.Item.{Item}
+use Rattle.store_items.specs.ConsistentRows.{IsKeptAt}
 use Rattle.store_rows.specs.ItemRows.{items_in}
 use Rattle.store_rows.specs.Joined.{found_of}
 use Rattle.store_rows.specs.Rows.{watches_in}
@@ -34,6 +35,10 @@ AreConsistent editions items = AllByRecursion (λ (it : Item). IsConsistentBy ed
 pub record AreItems (editions : BandTables) (items : List Item) : Type 0 where
   pub fits : AllByRecursion ItemFits items
   pub is_consistent : AreConsistent editions items
+
+-- what is sealed of each item that a member watches goes with what is shown
+abbrev pub AreKept : BandTables → ℕ → Trees → Type 0
+AreKept editions member db = (item : ℕ) → is_watched (tables_in db) member item ≡ true → IsKeptAt editions db item
 
 -- the rows of a member's watches fit
 abbrev pub WatchesFit : ℕ → Trees → Type 0

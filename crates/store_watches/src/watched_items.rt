@@ -2,13 +2,14 @@
 ghost use Rattle.std.specs.Prelude.{◌≡◌, ◌<◌, ◌^◌, ◌++◌, IfOk, OnOk, flat_map};
 ghost use Rattle.std.specs.List.{AllByRecursion};
 ghost use Rattle.sqlite.specs.Held.{state};
+ghost use Rattle.sqlite.specs.State.{HasCleanDisk};
 ghost use Rattle.house_rows.specs.Fits.{ItemFits};
 ghost use Rattle.house_rows.specs.Found.{items_watched, watch_count};
 ghost use Rattle.store_rows.specs.House.{Serves, ServesBy};
 ghost use Rattle.store_rows.specs.Tables.{tables_in};
-ghost use Rattle.store_items.specs.ConsistentRows.{RowFitsAt};
+ghost use Rattle.store_items.specs.ConsistentRows.{IsKeptAt, RowFitsAt};
 ghost use Rattle.store_rows.specs.Frames.{Finds};
-ghost use Rattle.store_watches.specs.Watched.{AreConsistent, AreItems, WatchedFit, WatchesFit, item_found};
+ghost use Rattle.store_watches.specs.Watched.{AreConsistent, AreItems, AreKept, WatchedFit, WatchesFit, item_found};
 
 use crate::list::watched_by;
 use house_rows::{Item, KeepFault};
@@ -33,6 +34,7 @@ pub fn watch_count<S: Alter>(
 }
 
 // Adds the item with a number to those found, if it is there.
+#[tactic(auto, using(store_items::proofs::ConsistentRows::ok_so))]
 fn add_item<S: Alter>(
     conn: &mut Connection<S>,
     rules: &Rules,
@@ -47,6 +49,8 @@ fn add_item<S: Alter>(
         → OnOk result (AllByRecursion ItemFits items.new.items) }
     ensures is_consistent { AreConsistent rules.now.editions items.old.items
         → OnOk result (AreConsistent rules.now.editions items.new.items) }
+    ensures kept { HasCleanDisk (state S.Store conn.new) → OnOk result
+        (IsKeptAt rules.now.editions (state S.Store conn.old).now.trees number) }
 {
     match item_at(conn, rules, number)? {
         Some(item) => push(items, item),
@@ -66,6 +70,8 @@ fn items_at<S: Alter>(
         (λ db items. items.items ≡ flat_map (item_found db) numbers.now)
         (λ db. AllByRecursion (RowFitsAt rules.now.editions db) numbers.now) }
     ensures fits { IfOk result (λ items. AreItems rules.now.editions items.items) }
+    ensures kept { HasCleanDisk (state S.Store conn.new) → OnOk result (AllByRecursion
+        (IsKeptAt rules.now.editions (state S.Store conn.old).now.trees) numbers.now) }
     ensures small { AllByRecursion (λ n. n < 2 ^ 64) numbers.now }
 {
     let mut items = Vec::new(alloc);
@@ -87,6 +93,8 @@ pub fn items_watched<S: Alter>(
         (λ db items. items.items ≡ items_watched (tables_in db) member)
         (WatchedFit rules.now.editions member) }
     ensures fits { IfOk result (λ items. AreItems rules.now.editions items.items) }
+    ensures kept { HasCleanDisk (state S.Store conn.new) → OnOk result
+        (AreKept rules.now.editions member (state S.Store conn.old).now.trees) }
 {
     let numbers = watched_by(alloc, conn, member)?;
     items_at(alloc, conn, rules, &numbers)

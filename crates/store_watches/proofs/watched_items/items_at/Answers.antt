@@ -1,9 +1,12 @@
-use Rattle.std.proofs.Common.{◌≡◌, ◌++◌, arith, get_or, rules, subst, sym}
+use Rattle.std.proofs.Common.{◌≡◌, ◌++◌, arith, get_or, rules, subst, sym, take}
+use Rattle.std.specs.List.{AllByRecursion}
+use Rattle.std.proofs.lemmas.List.{take_all, take_more}
 use Rattle.sqlite.specs.Effect.{Database}
 use Rattle.sqlite.specs.Held.{state}
-use Rattle.store_items.specs.ConsistentRows.{RowFitsAt}
+use Rattle.store_items.specs.ConsistentRows.{IsKeptAt, RowFitsAt}
 use Rattle.store_items.proofs.IsConsistent.{row_has}
 use Rattle.store_watches.specs.Watched.{item_found}
+use Rattle.store_rows.proofs.Wrote.{all_more}
 use Rattle.store_rows.proofs.Steps.{both_same, both_survive, clean_before, found_more}
 use Rattle.store_watches.proofs.WatchedItems.{all_small}
 use Rattle.store_rows.proofs.ReservesServing.{serves_still}
@@ -32,6 +35,12 @@ loop-number-preserved g c =
         fits = c.in_ok-add_item.ensures.fits held.fits.fits;
         is_consistent = c.in_ok-add_item.ensures.is_consistent held.fits.is_consistent;
       };
+      kept = λ clean. (let before = clean_before mid new crash clean in
+          let numbers = c.args.numbers.now in
+          let i = c.loop-number.number-index in
+          let Keeps = IsKeptAt c.args.rules.now.editions old.now.trees in
+          let here : Keeps (get_or numbers i 0) = subst (λ (db : Database). IsKeptAt c.args.rules.now.editions db.trees (get_or numbers i 0)) (held.same before).0.now_is (c.in_ok-add_item.ensures.kept clean) in
+          subst (AllByRecursion Keeps) (sym (take_more numbers i 0 c.loop-number-test.true)) (all_more Keeps (take i numbers) (get_or numbers i 0) (held.kept before) here));
     }
 
 pub returns-clause-small : goal.returns-clause-small
@@ -53,3 +62,8 @@ returns-in_err-add_item-clause-finds g c =
           c.in_err-add_item.ensures.finds.damaged clean (subst (λ (db : Database). RowFitsAt c.args.rules.now.editions db.trees number) (sym (c.loop-number.invariant.same before).0.now_is) here) (search rules));
       read = search rules;
     }
+
+pub returns-clause-kept : goal.returns-clause-kept
+returns-clause-kept g c = λ clean.
+    subst (AllByRecursion (IsKeptAt c.args.rules.now.editions (state g.S.Store c.args.conn.now).now.trees)) (take_all c.loop-number.number-index c.args.numbers.now c.loop-number-test.false)
+    (c.loop-number.invariant.kept clean)

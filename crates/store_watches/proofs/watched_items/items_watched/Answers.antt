@@ -2,11 +2,12 @@ use Rattle.std.proofs.Common.{◌≡◌, ◌<◌, ◌^◌, ◌∙◌, ap, flat_m
 use Rattle.std.specs.List.{AllByRecursion}
 use Rattle.sqlite.specs.Effect.{Database}
 use Rattle.sqlite.specs.Held.{state}
-use Rattle.store_items.specs.ConsistentRows.{RowFitsAt}
+use Rattle.store_items.specs.ConsistentRows.{IsKeptAt, RowFitsAt}
+use Rattle.store_items.proofs.ConsistentRows.{ok_as}
 use Rattle.store_rows.proofs.StateLemmas.{ok_then}
 use Rattle.store_watches.specs.Watched.{item_found}
 use Rattle.store_rows.proofs.Steps.{clean_before}
-use Rattle.store_watches.proofs.WatchedItems.{watched_fit_at, watched_found}
+use Rattle.store_watches.proofs.WatchedItems.{watched_fit_at, watched_found, watched_kept}
 use Rattle.store_rows.proofs.ReservesServing.{serves, serves_still}
 use Rattle.store_watches.proofs.watched_items.items_watched.Goals as goal
 
@@ -49,3 +50,17 @@ returns-clause-finds g c =
           (subst (AllByRecursion (RowFitsAt c.args.rules.now.editions old.now.trees)) (sym same) here)));
       read = search rules;
     }
+
+pub returns-clause-kept : goal.returns-clause-kept
+returns-clause-kept g c = λ clean.
+    let old = state g.S.Store c.args.conn.now in
+    let mid = state g.S.Store c.watched_by.new.conn in
+    let new = state g.S.Store c.items_at.new.conn in
+    let editions = c.args.rules.now.editions in
+    let numbers = c.in_ok-numbers.numbers.items in
+    let same : c.deref.result.now ≡ numbers = search rules in
+    let before = clean_before mid new c.items_at.ensures.finds.read.crash clean in
+    let still = (c.in_ok-numbers.ensures.read.same before).0.now_is in
+    ok_as c.items_at.result (c.items_at.ensures.kept clean) (λ kept.
+    watched_kept (IsKeptAt editions old.now.trees) old.now.trees c.args.member numbers (c.in_ok-numbers.ensures.value before).items
+    (subst (AllByRecursion (IsKeptAt editions old.now.trees)) same (subst (λ (db : Database). AllByRecursion (IsKeptAt editions db.trees) c.deref.result.now) still kept)))

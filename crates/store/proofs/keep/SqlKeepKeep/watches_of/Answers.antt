@@ -13,7 +13,7 @@ use Rattle.store_rows.specs.ItemRows.{items_in}
 use Rattle.store_rows.specs.Rows.{watches_in}
 use Rattle.store_rows.specs.Tables.{tables_in}
 use Rattle.store_rows.proofs.Sound.{watches_where}
-use Rattle.store.proofs.Known.{items_are_consistent, known_serves, known_where, works, failed_look}
+use Rattle.store.proofs.Known.{items_are_consistent, known_serves, known_where, row_is_kept, works, failed_look}
 use Rattle.store.proofs.keep.SqlKeepKeep.watches_of.Goals as goal
 
 pub items_watched-requires : goal.items_watched-requires
@@ -38,3 +38,9 @@ pub returns-in-Ok-items_watched-clause-is_consistent : goal.returns-in-Ok-items_
 returns-in-Ok-items_watched-clause-is_consistent g c = λ honest.
     let before : HasCleanDisk (state g.S.Store c.self.inside.conn) = omega (arith, c.in-Ok-items_watched.ensures.finds.read.crash.clean, honest) in
     rw (← c.self.view_is) (items_are_consistent _ _ _ _ _ (c.self.invariant.known (works _ _ c.self.view_is c.in_ok-serves.ensures.ok) before) _ c.in-Ok-items_watched.ensures.fits.is_consistent)
+
+pub returns-in-Ok-items_watched-clause-kept : goal.returns-in-Ok-items_watched-clause-kept
+returns-in-Ok-items_watched-clause-kept g c = λ honest.
+    let before : HasCleanDisk (state g.S.Store c.self.inside.conn) = omega (arith, c.in-Ok-items_watched.ensures.finds.read.crash.clean, honest) in
+    let same : c.in-Ok.member ≡ c.args.member = search rules in
+    rw (← c.self.view_is, ← same) (λ item is. row_is_kept _ _ _ _ _ (c.self.invariant.known (works _ _ c.self.view_is c.in_ok-serves.ensures.ok) before) item (c.in-Ok-items_watched.ensures.kept honest item is))
