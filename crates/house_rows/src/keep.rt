@@ -12,7 +12,7 @@ ghost use Rattle.house_rows.specs.Limits.{most_categories, most_items, most_show
 ghost use Rattle.house_rows.specs.Making.{IsApplied};
 ghost use Rattle.house_rows.specs.Pages.{member_at, ratings_of};
 ghost use Rattle.house_rows.specs.Tables.{Tables, band_tables};
-ghost use Rattle.house_rows.specs.Taken.{AllPublishedFit, AllWaitingFit, CategoryFitsAt, CategoryFitsNamed, CategoryItemsFit, DueItemsFit, FeedbackFitsFrom, FeedbackFitsTo, FirstAskedFit, FirstGivenFit, FirstPublishedFit, FirstWaitingFit, ItemFitsAt, ItemIsOurs, MemberFitsAt, MemberFitsNamed, OwnBidsFit, OwnBidsFitOn, OwnReservesFit, QuestionFitsAt, SalesFit, WatchedFit, WatchesFit, start_of};
+ghost use Rattle.house_rows.specs.Taken.{AllPublishedFit, AllWaitingFit, CategoryFitsAt, CategoryFitsNamed, CategoryItemsFit, DueItemsFit, FeedbackFitsFrom, FeedbackFitsTo, FirstAskedFit, FirstGivenFit, FirstPublishedFit, FirstWaitingFit, ItemFitsAt, ItemIsOurs, MemberFitsAt, MemberFitsNamed, OwnBidsFit, OwnBidsFitOn, OwnReservesFit, QuestionFitsAt, SalesFit, WatchedFit, WatchesFit, has_own_reserve, start_of};
 
 use crate::auction::Auction;
 use crate::change::Change;
@@ -221,7 +221,10 @@ pub trait Keep {
     fn reserves_of(&mut self, member: u64, from: u64) -> Result<Vec<OwnReserve>, KeepFault>
         ensures answers { IsAnswered content is_failed is_honest may_leave self.old self.new result
             (λ t v. v.items ≡ own_reserves t member from) (OwnReservesFit member from) }
-        ensures fits { IfOk result (λ v. AllByRecursion OwnReserveFits v.items) };
+        ensures fits { IfOk result (λ v. AllByRecursion OwnReserveFits v.items) }
+        ensures kept { is_honest self.new → OnOk result
+            (AllByRecursion (IsKeptRow (content self.old)) (take most_shown
+            (filter (has_own_reserve member from) (content self.old).items))) };
 
     /// The published questions on an item, from an asker on, by asker and number; at most fifty.
     fn published(&mut self, item: u64, from: u64) -> Result<Vec<Question>, KeepFault>

@@ -12,6 +12,7 @@ use Rattle.house_rows.specs.Keeping.{AllConsistent, AreKeptWatched, IsConsistent
 use Rattle.house_rows.specs.Limits.{most_shown}
 use Rattle.house_rows.specs.Pages.{sale_of}
 use Rattle.house_rows.specs.Tables.{ItemRow}
+use Rattle.house_rows.specs.Taken.{has_own_reserve}
 use Rattle.house_rows.specs.Verdict.{was_sold}
 use Rattle.house_rows.specs.declared.item.Item.{Item}
 use Rattle.house_rows.specs.declared.item.OwnBid.{OwnBid}
@@ -108,6 +109,13 @@ module _ (db : Trees) (n : ℕ) (high : 2 ^ 32 ≤ n) (low : n < 2 ^ 64) where
   pub no_reserves : (from : ℕ) → own_reserves (tables_in db) n from ≡ []
   unfolding tables_in
   no_reserves from = ap (λ (rows : List ItemRow). take most_shown (filter (λ r. nat_le from r.item) (reserves_in rows))) (no_items_of db n high low)
+
+  pub no_reserves_kept : (from : ℕ) → AllByRecursion (IsKeptRow (tables_in db)) (take most_shown (filter (has_own_reserve n from) (tables_in db).items))
+  unfolding tables_in
+  no_reserves_kept from =
+      let p : ItemRow → Bool = λ (row : ItemRow). row.item.terms.seller == n in
+      subst (λ (l : List ItemRow). AllByRecursion (IsKeptRow (tables_in db)) (take most_shown l))
+      (sym ((none_narrower p (has_own_reserve n from) (λ row other. first_fails (row.item.terms.seller == n) (is_some row.standing.reserve && nat_le from row.item.terms.item) other) (stored.items_in db) (no_items_of db n high low)).1)) tt
 
   pub no_published : (from : ℕ) → published_on (tables_in db) n from ≡ []
   unfolding tables_in

@@ -368,7 +368,7 @@ impl<S: Alter> Keep for SqlKeep<S> {
         }
     }
 
-    #[tactic(auto, using(crate::proofs::AbsentLists::no_reserves))]
+    #[tactic(auto, using(crate::proofs::AbsentLists::no_reserves, crate::proofs::AbsentLists::no_reserves_kept))]
     fn reserves_of(&mut self, member: u64, from: u64) -> Result<Vec<OwnReserve>, KeepFault> {
         self.serves()?;
         let Ok(member) = u32::try_from(member) else {

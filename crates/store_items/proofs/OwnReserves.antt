@@ -1,6 +1,6 @@
 -- The reserves that a member has sealed, by the rows of what it sells.
-use Rattle.std.proofs.Common.{◌≡◌, ◌==◌, ◌++◌, ◌&&◌, ◌+◌, ◌-◌, ◌<◌, ◌≤◌, ◌^◌, ℕ, suc, pos, Bool, true, false, cond, List, [], ◌∷◌, Option, Some, None, map, filter, flat_map, take, length, refl, sym, ap, ap₂, subst, ◌∙◌, arith, true≢false}
-use Rattle.std.specs.Prelude.{is_some, nat_le}
+use Rattle.std.proofs.Common.{◌≡◌, ◌==◌, ◌++◌, ◌&&◌, ◌+◌, ◌-◌, ◌<◌, ◌≤◌, ◌^◌, ℕ, zero, suc, pos, Bool, true, false, cond, List, [], ◌∷◌, Option, Some, None, map, filter, flat_map, take, length, refl, sym, ap, ap₂, subst, ◌∙◌, arith, true≢false}
+use Rattle.std.specs.Prelude.{Err, Ok, OnOk, Result, is_some, nat_le}
 use Rattle.std.specs.List.{AllByRecursion}
 use Rattle.std.proofs.lemmas.List.{append-nil, length-append}
 use Rattle.std.proofs.lemmas.List.Elements.{filter-append}
@@ -126,3 +126,31 @@ next_low {A} P report terms most found x rest room low =
 pub report_few : (t : Terms) (o : Option ℕ) → length (reserve_reported t o) ≤ 1
 report_few t None = omega arith
 report_few t (Some a) = omega arith
+
+-- what is so of a row that was read is so where it shows a reserve
+pub some_kept : {A E : Type 0} (r : Result A E) (Q P : Type 0) → P → OnOk r (Q → P)
+some_kept (Ok a) Q P so = λ _. so
+some_kept (Err e) Q P so = tt
+
+-- where the next is so if it is read, and the first of those after it are, the first of them all are
+pub back_held : {A : Type 0} (P : A → Type 0) (report : A → Option ℕ) (terms : A → Terms) (most : ℕ) (found : List OwnReserve) (x : A) (rest : List A) → length found < most
+    → (is_some (report x) ≡ true → P x) → AllByRecursion P (take (most - length (found ++ reserve_reported (terms x) (report x))) (filter (λ y. is_some (report y)) rest))
+    → AllByRecursion P (take (most - length found) (filter (λ y. is_some (report y)) (x ∷ rest)))
+back_held {A} P report terms most found x rest room here later = go (report x) refl
+  where
+    go : (o : Option ℕ) → report x ≡ o → AllByRecursion P (take (most - length found) (filter (λ y. is_some (report y)) (x ∷ rest)))
+    go None is =
+        let no : is_some (report x) ≡ false = ap is_some is in
+        let long : length (found ++ reserve_reported (terms x) (report x)) ≡ length found = ap (λ o. length (found ++ reserve_reported (terms x) o)) is ∙ ap length (append-nil found) in
+        rw no (subst (λ k. AllByRecursion P (take (most - k) (filter (λ y. is_some (report y)) rest))) long later)
+    go (Some a) is =
+        let yes : is_some (report x) ≡ true = ap is_some is in
+        let long : length (found ++ reserve_reported (terms x) (report x)) ≡ length found + 1 = ap (λ o. length (found ++ reserve_reported (terms x) o)) is ∙ length-append found (reserve_reported (terms x) (Some a)) in
+        let one : suc (most - (length found + 1)) ≡ most - length found = omega (arith, room) in
+        subst (λ k. AllByRecursion P (take k (filter (λ y. is_some (report y)) (x ∷ rest)))) one
+        (rw yes (here yes, subst (λ k. AllByRecursion P (take (most - k) (filter (λ y. is_some (report y)) rest))) long later))
+
+-- of none whatever is taken is so
+pub none_taken : {A : Type 0} (P : A → Type 0) (n : ℕ) → AllByRecursion P (take n [])
+none_taken P zero = tt
+none_taken P (suc n) = tt

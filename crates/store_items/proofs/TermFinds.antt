@@ -22,7 +22,7 @@ use Rattle.sqlite.specs.Effect.{Database}
 use Rattle.sqlite.specs.State.{State, Shown}
 use Rattle.sqlite.proofs.Callers.{reads_as}
 use Rattle.proxy.specs.Bids.{is_leader}
-use Rattle.house_rows.specs.Keeping.{FitsBy}
+use Rattle.house_rows.specs.Keeping.{FitsBy, IsKeptRowBy}
 use Rattle.house_rows.specs.Taken.{FitWhere, up_to}
 use Rattle.house_rows.specs.Items.{is_due, is_open}
 use Rattle.house_rows.specs.Tables.{ItemRow}
@@ -39,7 +39,7 @@ use Rattle.store_rows.proofs.RowLemmas.{int_if, equals_number, alone, filter_sam
 use Rattle.store_rows.proofs.Select.{by_rowid, equals, in_order, listed, typed_part}
 use Rattle.store_rows.proofs.Tested.{filter_both}
 use Rattle.store_rows.proofs.Update.{IsStrict, numbered_passes}
-use Rattle.store_items.specs.Standing.{TermsHold}
+use Rattle.store_items.specs.Standing.{IsShownKept, TermsHold}
 use Rattle.store_items.proofs.Holding.{terms_row}
 use Rattle.store_items.proofs.ItemMeaning.{terms_shown}
 use Rattle.store_rows.proofs.ColumnKinds.{kinds_of}
@@ -145,6 +145,23 @@ module _ (sql : List ℕ) (test : List Term) (is : AsksTerms sql test) (params :
       let shown : filter further answer ≡ map show kept =
       ap (filter further) order ∙ filter-map further show (filter (passes test params) rows) ∙ ap (map show) (filter_both (passes test params) (λ r. further (show r)) rows) in
       subst (AllByRecursion (TermsHold editions R)) (sym (ap (take many) shown ∙ take-map show many kept)) held
+
+  -- and where what is sealed goes with what is shown of the first that it shows, it does so of these items
+  pub first_back : (keep : ItemRow → Bool) (further : Row → Bool) → ((r : Row) → IsRow r → (passes test params r && further (shown_by terms_shown params r)) ≡ keep (make r)) → (editions : BandTables) (many : ℕ)
+      → AllByRecursion (IsShownKept editions R) (take many (filter further answer)) → AllByRecursion (IsKeptRowBy editions) (take many (filter keep (items_in old.now.trees)))
+  first_back keep further tests editions many held =
+      let rows = old.now.trees 6 in
+      let show = shown_by terms_shown params in
+      let both = λ (r : Row). passes test params r && further (show r) in
+      let kept = filter both rows in
+      let read = reads_as sql params old new _ house.schema _ (is _).0 (is _).2 (is _).1 answer h in
+      let order = in_order test terms_shown params rows answer house.shaped.1.1.1.1.0.0 (listed 6 test terms_shown by_rowid (overlay old.now.trees []) params answer (read.answer Null)) in
+      let typed : filter keep (map make rows) ≡ map make kept = filter-map keep make rows ∙ ap (map make) (sym (filter_same_on IsRow both (λ r. keep (make r)) tests rows (are_rows old.now house))) in
+      let shown : filter further answer ≡ map show kept =
+      ap (filter further) order ∙ filter-map further show (filter (passes test params) rows) ∙ ap (map show) (filter_both (passes test params) (λ r. further (show r)) rows) in
+      let front = all_unmap (IsShownKept editions R) show (take many kept) (subst (AllByRecursion (IsShownKept editions R)) (ap (take many) shown ∙ take-map show many kept) held) in
+      subst (AllByRecursion (IsKeptRowBy editions)) (sym (ap (take many) typed ∙ take-map make many kept))
+      (all_map (IsKeptRowBy editions) make (take many kept) (all_weaker (λ r. IsShownKept editions R (show r)) (λ r. IsKeptRowBy editions (make r)) (λ r goes. goes) (take many kept) front))
 
 -- ---- the tests
 

@@ -6,11 +6,12 @@ use Rattle.proxy.specs.Rows.{is_shape}
 use Rattle.house_rows.specs.declared.item.Terms.{Terms}
 use Rattle.house_rows.specs.Editions.{BandTables, bands_in}
 use Rattle.house_rows.specs.Fits.{ItemFits, TermsFit}
+use Rattle.house_rows.specs.Keeping.{IsKeptItemBy}
 use Rattle.house_rows.specs.Limits.{most_cents}
 use Rattle.house_rows.specs.Verdict.{was_sold}
 use Rattle.store_rows.specs.Rows.{maybe_number_in}
 use Rattle.store_rows.specs.declared.reserve.ReserveRow.{ReserveRow}
-use Rattle.store_rows.specs.ItemRows.{amount_of, item_of, terms_of}
+use Rattle.store_rows.specs.ItemRows.{amount_of, auction_by, item_of, terms_by, terms_of}
 
 abbrev pub is_price : Option ℕ → ℕ → Bool
 is_price None price = false
@@ -46,6 +47,10 @@ pub record AreSealed (bands : List Band) (reserve : Option ℕ) (at : ℕ) (r : 
   pub second : IfSome (maybe_number_in (column r (at + 1))) (λ n. n ≤ most_cents)
   pub is_consistent : is_consistent bands (terms_of r) reserve (maybe_number_in (column r at)) (maybe_number_in (column r (at + 1)))
       ≡ true
+
+-- what a query shows as sealed of an item, after its terms, goes with the terms
+abbrev pub IsShownKept : BandTables → List ReserveRow → Row → Type 0
+IsShownKept editions reserves r = IsKeptItemBy editions (terms_by reserves r) (auction_by reserves r).standing
 
 -- what a query shows of an item, its maxima after the terms, or after the texts
 abbrev pub TermsHold : BandTables → List ReserveRow → Row → Type 0

@@ -3,18 +3,21 @@
 ghost use Rattle.std.specs.Prelude.{◌≡◌, ◌<◌, ◌^◌, ◌++◌, filter, flat_map, is_some, true, take, IfOk, OnOk, IsErrOf};
 ghost use Rattle.std.specs.List.{AllByRecursion};
 ghost use Rattle.sqlite.specs.Held.{state};
+ghost use Rattle.sqlite.specs.State.{HasCleanDisk};
 ghost use Rattle.sqlite_value.specs.Order.{column};
 ghost use Rattle.house_rows.specs.Fits.{OwnReserveFits};
 ghost use Rattle.house_rows.specs.Found.{own_reserves};
+ghost use Rattle.house_rows.specs.Keeping.{IsKeptRowBy};
 ghost use Rattle.house_rows.specs.Limits.{most_shown};
-ghost use Rattle.house_rows.specs.Taken.{up_to};
+ghost use Rattle.house_rows.specs.Taken.{has_own_reserve, up_to};
 ghost use Rattle.house_rows.specs.declared.fault.KeepFault.TheVariants.{Damaged};
 ghost use Rattle.store_rows.specs.Frames.{Finds};
 ghost use Rattle.store_rows.specs.House.{ServesBy};
+ghost use Rattle.store_rows.specs.ItemRows.{items_in};
 ghost use Rattle.store_rows.specs.Rows.{number_in};
 ghost use Rattle.store_rows.specs.Tables.{tables_in};
 ghost use Rattle.store_items.specs.OwnReserves.{reserve_in, reserve_shown};
-ghost use Rattle.store_items.specs.Standing.{TermsHold};
+ghost use Rattle.store_items.specs.Standing.{IsShownKept, TermsHold};
 ghost use Rattle.store_items.specs.LookUps.{ReservesFit};
 
 use crate::reads::terms_read;
@@ -48,6 +51,8 @@ fn add_reserve(
         ++ reserve_shown rules.now.reserves from row.now) }
     ensures fits { AllByRecursion OwnReserveFits found.old.items
         → OnOk result (AllByRecursion OwnReserveFits found.new.items) }
+    ensures kept { OnOk result (is_some (reserve_in rules.now.reserves from row.now) ≡ true
+        → IsShownKept rules.now.editions rules.now.reserves row.now) }
     ensures damaged { number_in (column row.now 0) < 2 ^ 32
         → (is_some (reserve_in rules.now.reserves from row.now) ≡ true
         → TermsHold rules.now.editions rules.now.reserves row.now)
@@ -77,6 +82,9 @@ fn first_reserves(
     ensures value { IfOk result (λ found. found.items ≡ take most_shown
         (flat_map (reserve_shown rules.now.reserves from) rows.now)) }
     ensures fits { IfOk result (λ found. AllByRecursion OwnReserveFits found.items) }
+    ensures kept { OnOk result (AllByRecursion (IsShownKept rules.now.editions rules.now.reserves)
+        (take most_shown
+        (filter (λ row. is_some (reserve_in rules.now.reserves from row)) rows.now))) }
     ensures damaged { AllByRecursion (λ row. number_in (column row 0) < 2 ^ 32) (up_to most_shown
         (λ row. is_some (reserve_in rules.now.reserves from row)) rows.now)
         → AllByRecursion (TermsHold rules.now.editions rules.now.reserves) (take most_shown
@@ -108,6 +116,9 @@ pub fn reserves_of<S: Alter>(
         (λ db found. found.items ≡ own_reserves (tables_in db) member from)
         (ReservesFit rules.now.editions member from) }
     ensures fits { IfOk result (λ found. AllByRecursion OwnReserveFits found.items) }
+    ensures kept { HasCleanDisk (state S.Store conn.new) → OnOk result (AllByRecursion
+        (IsKeptRowBy rules.now.editions) (take most_shown (filter (has_own_reserve member from)
+        (items_in (state S.Store conn.old).now.trees)))) }
 {
     let rows = rows_shown(
         conn,

@@ -6,7 +6,7 @@ ghost use Rattle.house_rows.specs.Fits.{ItemFits, StandingFits, TermsFit};
 ghost use Rattle.house_rows.specs.Keeping.{IsConsistentBy, IsKeptItemBy, IsKeptRowBy};
 ghost use Rattle.house_rows.specs.declared.fault.KeepFault.TheVariants.{Damaged};
 ghost use Rattle.store_rows.specs.ItemRows.{amount_of, auction_by, item_by, kept_from, row_by, terms_by, with_met};
-ghost use Rattle.store_items.specs.Standing.{ItemHolds, TermsHold, is_bought, is_consistent};
+ghost use Rattle.store_items.specs.Standing.{IsShownKept, ItemHolds, TermsHold, is_bought, is_consistent};
 
 use cents::Cents;
 use house_rows::{Auction, Item, KeepFault, State, Terms};
@@ -112,6 +112,7 @@ fn auction_read(rules: &Rules, row: &Row) -> Result<Auction, KeepFault>
     ensures fits { IfOk result (λ a. TermsFit a.terms × StandingFits a.standing) }
     ensures is_consistent { IfOk result (λ a. IsConsistentBy rules.now.editions a.terms) }
     ensures kept { IfOk result (λ a. IsKeptItemBy rules.now.editions a.terms a.standing) }
+    ensures shown { OnOk result (IsShownKept rules.now.editions rules.now.reserves row.now) }
     ensures damaged { TermsHold rules.now.editions rules.now.reserves row.now
         → ¬ (IsErrOf result Damaged) }
 {
@@ -127,6 +128,7 @@ pub(crate) fn terms_read(rules: &Rules, row: &Row) -> Result<Terms, KeepFault>
     ensures value { IfOk result (λ it. it ≡ terms_by rules.now.reserves row.now) }
     ensures fits { IfOk result TermsFit }
     ensures is_consistent { IfOk result (IsConsistentBy rules.now.editions) }
+    ensures shown { OnOk result (IsShownKept rules.now.editions rules.now.reserves row.now) }
     ensures damaged { TermsHold rules.now.editions rules.now.reserves row.now
         → ¬ (IsErrOf result Damaged) }
 {

@@ -1,7 +1,7 @@
-use Rattle.std.proofs.Common.{◌≡◌, ◌≤◌, ◌<◌, ◌-◌, ◌+◌, ◌^◌, ◌++◌, ◌∙◌, true, ap, arith, drop, filter, flat_map, get_or, length, refl, rules, subst, sym, take}
+use Rattle.std.proofs.Common.{List, ◌≡◌, ◌≤◌, ◌<◌, ◌-◌, ◌+◌, ◌^◌, ◌++◌, ◌∙◌, true, ap, arith, drop, filter, flat_map, get_or, length, refl, rules, subst, sym, take}
 use Rattle.std.specs.Prelude.{is_some}
 use Rattle.std.specs.List.{AllByRecursion}
-use Rattle.std.proofs.lemmas.List.{drop_more, length-append}
+use Rattle.std.proofs.lemmas.List.{drop_all, drop_more, length-append}
 use Rattle.sqlite_value.specs.Order.{Row, column}
 use Rattle.house_rows.specs.Limits.{most_shown}
 use Rattle.house_rows.specs.Taken.{up_to}
@@ -9,8 +9,8 @@ use Rattle.store_rows.specs.ItemRows.{terms_by}
 use Rattle.store_rows.specs.Rows.{number_in}
 use Rattle.store_rows.proofs.Steps.{first_found_all, first_found_full, found_more}
 use Rattle.store_items.specs.OwnReserves.{reserve_in, reserve_shown}
-use Rattle.store_items.specs.Standing.{TermsHold}
-use Rattle.store_items.proofs.OwnReserves.{next_held, next_low, report_few}
+use Rattle.store_items.specs.Standing.{IsShownKept, TermsHold}
+use Rattle.store_items.proofs.OwnReserves.{back_held, none_taken, next_held, next_low, report_few}
 use Rattle.store_items.proofs.own_reserves.first_reserves.Goals as goal
 
 pub loop-row-preserved : goal.loop-row-preserved
@@ -38,6 +38,11 @@ loop-row-preserved c =
       held = λ fit. (let now = subst (λ l. AllByRecursion Holds (take (most_shown - length c.loop-row.found.items) (filter shows l))) (drop_more rows i c.row-item.result c.loop-row-test.true) (held.held fit) in
           let next = next_held Holds (reserve_in R c.args.from) (terms_by R) most_shown c.loop-row.found.items x (drop (i + 1) rows) room now in
           subst (λ l. AllByRecursion Holds (take (most_shown - length l) (filter shows (drop (i + 1) rows)))) (sym one) next.1);
+      kept = λ rest. (let Keeps = IsShownKept c.args.rules.now.editions R in
+          let here = subst (λ (r : Row). is_some (reserve_in R c.args.from r) ≡ true → Keeps r) c.row-item.is c.in_ok-add_reserve.ensures.kept in
+          let later = subst (λ l. AllByRecursion Keeps (take (most_shown - length l) (filter shows (drop (i + 1) rows)))) one rest in
+          held.kept (subst (λ l. AllByRecursion Keeps (take (most_shown - length c.loop-row.found.items) (filter shows l))) (sym (drop_more rows i c.row-item.result c.loop-row-test.true))
+          (back_held Keeps (reserve_in R c.args.from) (terms_by R) most_shown c.loop-row.found.items x (drop (i + 1) rows) room here later)));
       low = λ small. (let now = subst (λ l. AllByRecursion Low (up_to (most_shown - length c.loop-row.found.items) shows l)) (drop_more rows i c.row-item.result c.loop-row-test.true) (held.low small) in
           let next = next_low Low (reserve_in R c.args.from) (terms_by R) most_shown c.loop-row.found.items x (drop (i + 1) rows) room now in
           subst (λ l. AllByRecursion Low (up_to (most_shown - length l) shows (drop (i + 1) rows))) (sym one) next.1);
@@ -74,3 +79,18 @@ returns-in_err-add_reserve-clause-damaged c low fit is =
     let small = next_low Low (reserve_in R c.args.from) (terms_by R) most_shown c.loop-row.found.items x (drop (i + 1) rows) room low_now in
     c.in_err-add_reserve.ensures.damaged (subst Low (sym c.row-item.is) small.0)
     (subst (λ (r : Row). is_some (reserve_in R c.args.from r) ≡ true → Holds r) (sym c.row-item.is) next.0) (search rules)
+
+pub returns-then-len-ge-MOST_SHOWN-clause-kept : goal.returns-then-len-ge-MOST_SHOWN-clause-kept
+returns-then-len-ge-MOST_SHOWN-clause-kept c =
+    let Keeps = IsShownKept c.args.rules.now.editions c.args.rules.now.reserves in
+    let shows = λ (r : Row). is_some (reserve_in c.args.rules.now.reserves c.args.from r) in
+    let whole = c.loop-row.found.ok.0 in
+    let full : most_shown - length c.loop-row.found.items ≡ 0 = omega (arith, whole) in
+    c.loop-row.invariant.kept (subst (λ k. AllByRecursion Keeps (take k (filter shows (drop c.loop-row.row-index c.args.rows.now)))) (sym full) tt)
+
+pub returns-clause-kept : goal.returns-clause-kept
+returns-clause-kept c =
+    let Keeps = IsShownKept c.args.rules.now.editions c.args.rules.now.reserves in
+    let shows = λ (r : Row). is_some (reserve_in c.args.rules.now.reserves c.args.from r) in
+    c.loop-row.invariant.kept (subst (λ (l : List Row). AllByRecursion Keeps (take (most_shown - length c.loop-row.found.items) (filter shows l))) (sym (drop_all c.loop-row.row-index c.args.rows.now c.loop-row-test.false))
+    (none_taken Keeps (most_shown - length c.loop-row.found.items)))

@@ -10,7 +10,7 @@ use Rattle.house_rows.specs.Tables.{ItemRow}
 use Rattle.store_rows.specs.ItemRows.{items_in}
 use Rattle.store_rows.specs.Tables.{tables_in}
 use Rattle.store_items.proofs.SoundItems.{reserves_sound}
-use Rattle.store.proofs.Known.{known_list, known_rows, known_serves, not_reported, report_sound, works}
+use Rattle.store.proofs.Known.{known_list, known_rows, known_serves, not_reported, report_sound, rows_are_kept, works}
 use Rattle.store.proofs.keep.SqlKeepKeep.reserves_of.Goals as goal
 
 pub reserves_of-requires : goal.reserves_of-requires
@@ -40,3 +40,10 @@ returns-in-Err-clause-answers g c = record {
       c.in-Err.ensures.finds.damaged clean (record { numbered = subst sold (sym same) numbered; shown = subst shown (sym same) (known_list _ _ _ _ _ known _ fits) }) (ap Err is)));
   read = search rules;
 }
+
+pub returns-in-Ok-reserves_of-clause-kept : goal.returns-in-Ok-reserves_of-clause-kept
+unfolding tables_in
+returns-in-Ok-reserves_of-clause-kept g c = λ honest.
+    let before : HasCleanDisk (state g.S.Store c.self.inside.conn) = omega (arith, c.in-Ok-reserves_of.ensures.finds.read.crash.clean, honest) in
+    let same : c.in-Ok.member ≡ c.args.member = search rules in
+    rw (← c.self.view_is, ← same) (rows_are_kept _ _ _ _ _ (c.self.invariant.known (works _ _ c.self.view_is c.in_ok-serves.ensures.ok) before) _ (c.in-Ok-reserves_of.ensures.kept honest))
