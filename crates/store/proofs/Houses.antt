@@ -1,15 +1,18 @@
 -- What a crash leaves of a keep is a house.
-use Rattle.std.proofs.Common.{◌≡◌, ◌∙◌, ap, arith, inl, inr, sym}
-use Rattle.std.specs.Prelude.{IsTrue}
+use Rattle.std.proofs.Common.{◌≡◌, ◌∙◌, [], find, Option, Some, None, ap, arith, inl, inr, subst, sym}
+use Rattle.std.specs.Prelude.{◌==◌, IsTrue, option_map, unwrap_or}
 use Rattle.sqlite.specs.Effect.{Database, IsDatabase}
 use Rattle.sqlite.specs.State.{HasCleanDisk, State, Survives}
 use Rattle.sqlite_trees.specs.Tree.{Trees}
 use Rattle.house_rows.specs.declared.change.Change.{Change}
 use Rattle.store_rows.specs.Commits.{LeavesShown, MadeBy}
+use Rattle.store_rows.specs.declared.house.HouseRow.{HouseRow}
+use Rattle.store_rows.specs.Fitting.{HouseRowFits}
 use Rattle.store_rows.specs.House.{IsHouse}
-use Rattle.store_rows.specs.Tables.{IsAtRest}
+use Rattle.store_rows.specs.Rows.{houses_in}
+use Rattle.store_rows.specs.Tables.{IsAtRest, house_row_in, version_in}
 use Rattle.store_house.proofs.OpenLemmas.{one_schema}
-use Rattle.store.specs.Kept.{LeavesHouses, LeavesOneSchema}
+use Rattle.store.specs.Kept.{LeavesHouses, LeavesOneSchema, LeavesVersion}
 
 -- at rest a crash leaves what was committed
 pub rests_in_houses : (s : State) → ((db : Trees) → IsTrue s.is_open → s.may_leave db → db ≡ s.committed.trees)
@@ -72,3 +75,36 @@ pub schema_or_made : (change : Change) (old new : State) → Survives old new (M
 schema_or_made change old new survives settled rests honest one two is also may left =
     let rest = rests (omega (arith, survives.clean, honest)) in
     before_or_made change old new survives settled rest honest one is may ∙ sym (before_or_made change old new survives settled rest honest two also left)
+
+-- ---- the version
+
+-- a house whose row fits is of the version that an opening takes
+version_of_found : (found : Option HouseRow) → HouseRowFits (unwrap_or found (record { id = 0; version = 0; clock = 0; rate = 0; zone = [] })) → option_map (λ (h : HouseRow). h.version) found ≡ Some 2
+version_of_found None fits = absurd (let e : 0 ≡ 2 = fits.version in omega (arith, e))
+version_of_found (Some h) fits = ap Some fits.version
+
+version_that_fits : (db : Trees) → HouseRowFits (house_row_in db) → version_in db ≡ Some 2
+unfolding house_row_in
+version_that_fits db fits = version_of_found (find (λ (h : HouseRow). h.id == 1) (houses_in db)) fits
+
+-- one that was opened
+pub opened_version : (s : State) → (HasCleanDisk s → LeavesShown s) → (HasCleanDisk s → HouseRowFits (house_row_in s.now.trees)) → LeavesVersion s
+opened_version s only row honest db may = subst (λ (t : Trees). version_in t ≡ Some 2) (sym (only honest db may)) (version_that_fits s.now.trees (row honest))
+
+-- a call that commits nothing leaves it
+pub version_stays : (old new : State) → Survives old new (λ _. ⊥) → LeavesVersion old → LeavesVersion new
+version_stays old new survives leaves honest db may =
+    let before : HasCleanDisk old = omega (arith, survives.clean, honest) in
+    elim (survives.crash honest db may) [ inl left ↦ leaves before db left | inr none ↦ absurd none ]
+
+-- and so does a change of a house at rest, made or not
+pub version_or_made : (change : Change) (old new : State) → Survives old new (MadeBy change old) → (IsTrue old.is_open → old.may_leave old.committed.trees)
+    → (HasCleanDisk old → IsAtRest old) → LeavesVersion old → LeavesVersion new
+version_or_made change old new survives stays rests leaves honest db may =
+    let before : HasCleanDisk old = omega (arith, survives.clean, honest) in
+    let rest = rests before in
+    let was : version_in old.now.trees ≡ Some 2 = subst (λ (d : Database). version_in d.trees ≡ Some 2) (sym rest.settled) (leaves before old.committed.trees (stays rest.is_open)) in
+    elim (survives.crash honest db may) [
+      | inl left ↦ leaves before db left
+      | inr made ↦ subst (λ (t : Trees). version_in t ≡ Some 2) (sym made.2) (made.1.version ∙ was)
+    ]

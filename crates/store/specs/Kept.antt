@@ -1,5 +1,5 @@
 -- What a house in SQLite is to its callers.
-use Rattle.std.specs.Prelude.{◌≡◌, ℕ, List, Option, None, IfSome, Bool, false, refl}
+use Rattle.std.specs.Prelude.{◌≡◌, ℕ, List, Option, Some, None, IfSome, Bool, false, refl}
 use Rattle.steps.specs.Table.{Band}
 use Rattle.std.specs.Coded.{Coded, code_by, coded×, coded_ℕ, coded_bool, coded_list}
 use Rattle.sqlite_trees.specs.declared.store.Store.{Ghosts}
@@ -17,7 +17,7 @@ use Rattle.house_rows.specs.declared.settings.Settings.{Settings}
 use Rattle.store_rows.specs.declared.reserve.ReserveRow.{ReserveRow}
 use Rattle.store_rows.specs.House.{IsHouse}
 use Rattle.store_rows.specs.Rows.{reserves_in}
-use Rattle.store_rows.specs.Tables.{IsAtRest, tables_in}
+use Rattle.store_rows.specs.Tables.{IsAtRest, tables_in, version_in}
 use Rattle.store_items.specs.Seen.{IsThere}
 use Rattle.sqlite.specs.Effect.{Database, IsDatabase}
 
@@ -94,17 +94,23 @@ abbrev pub LeavesOneSchema : State → Type 0
 LeavesOneSchema s = HasCleanDisk s → (one two : Database) → IsDatabase one → IsDatabase two
     → s.may_leave one.trees → s.may_leave two.trees → one.schema ≡ two.schema
 
--- No transaction is open; and until it failed, a house is committed, as far as the disk was honest, and an item that was seen
--- last is as it was seen. A crash leaves a house whether it failed or not, and of one schema, which at rest is that of the house
--- which is committed.
+-- and is of the version that an opening takes
+abbrev pub LeavesVersion : State → Type 0
+LeavesVersion s = HasCleanDisk s → (db : Trees) → s.may_leave db → version_in db ≡ Some 2
+
+-- No transaction is open, and no limit on steps is set; and until it failed, a house is committed, as far as the disk was
+-- honest, and an item that was seen last is as it was seen. A crash leaves a house whether it failed or not, of the version
+-- that an opening takes, and of one schema, which at rest is that of the house which is committed.
 pub record IsKeptSeen {S : Type 0} (g : Ghosts S) (seen : Option Auction) (k : House S) : Type 0 where
   pub idle : k.conn.in_transaction ≡ false
+  pub unlimited : k.conn.step_limit ≡ None
   pub moment : IsMoment k.clock
   pub rests : k.failed ≡ false → HasCleanDisk (state g k.conn) → IsAtRest (state g k.conn)
   pub known : k.failed ≡ false → HasCleanDisk (state g k.conn) → IsKnown k.editions k.reserves k.counts k.clock seen (state g k.conn).now.trees
   pub seen_fits : IfSome seen (λ a. TermsFit a.terms × StandingFits a.standing)
   pub houses : LeavesHouses (state g k.conn)
   pub one_schema : LeavesOneSchema (state g k.conn)
+  pub version : LeavesVersion (state g k.conn)
 
 -- whatever was seen
 abbrev pub IsKept : {S : Type 0} → Ghosts S → House S → Type 0

@@ -11,7 +11,7 @@ use Rattle.store_rows.specs.declared.reserve.ReserveRow.{ReserveRow}
 use Rattle.store_rows.specs.declared.rules.Rules.{Rules}
 use Rattle.store.specs.After.{bands_set, with_table}
 use Rattle.store.specs.Kept.{content}
-use Rattle.store.proofs.Houses.{houses_or_made, houses_stay, schema_or_made, schema_stays, shown_houses, shown_schema}
+use Rattle.store.proofs.Houses.{houses_or_made, houses_stay, schema_or_made, schema_stays, shown_houses, shown_schema, version_or_made, version_stays}
 use Rattle.store.proofs.Known.{forgotten, seen_in}
 use Rattle.store.proofs.Moves.{can_add, known_after, left_after}
 use Rattle.store.proofs.keep.SqlKeep.change.Goals as goal
@@ -60,6 +60,7 @@ make_change-requires-clause-seen g c = λ honest. rw (c.take-seen.ensures.value)
 pub invariant_of-self-in-Ok : goal.invariant_of-self-in-Ok
 invariant_of-self-in-Ok g c = rw (c.take-seen.ensures.after) (record {
   idle = c.in-Ok.ensures.commit.mode;
+  unlimited = c.in-Ok.ensures.commit.crash.limit ∙ c.self.invariant.unlimited;
   moment = c.in-Some.ensures.fits;
   rests = λ going honest. let ok = c.in-Ok.ensures.commit.ok honest in record { is_open = ok.0; house = ok.2.house; settled = ok.1; numbered = ok.2.numbered };
   known = λ going honest.
@@ -69,12 +70,15 @@ invariant_of-self-in-Ok g c = rw (c.take-seen.ensures.after) (record {
   seen_fits = tt;
   houses = shown_houses (state g.S.Store c.make_change.new.conn) c.in-Ok.ensures.commit.only (λ honest. (c.in-Ok.ensures.commit.ok honest).2.house);
   one_schema = shown_schema (state g.S.Store c.make_change.new.conn) c.in-Ok.ensures.commit.only (λ honest. (c.in-Ok.ensures.commit.ok honest).2.house);
+  version = version_or_made c.args.change.now _ _ c.in-Ok.ensures.commit.crash (λ is_open. g.met.S.Store.stays c.self.inside.conn.store is_open)
+      (c.self.invariant.rests c.if-self.false) c.self.invariant.version;
 })
 
 -- where it fails a crash leaves what it left before, or the change
 pub invariant_of-self-in-Err : goal.invariant_of-self-in-Err
 invariant_of-self-in-Err g c = rw (c.take-seen.ensures.after) (record {
   idle = search rules;
+  unlimited = c.reported_fault.ensures.crash.limit ∙ c.in-Err.ensures.commit.crash.limit ∙ c.self.invariant.unlimited;
   moment = search rules;
   rests = search rules;
   known = λ going honest. forgotten {seen = c.self.inside.seen} _ _ _ _ _ (search rules);
@@ -84,6 +88,9 @@ invariant_of-self-in-Err g c = rw (c.take-seen.ensures.after) (record {
   one_schema = schema_stays _ _ c.reported_fault.ensures.crash
       (schema_or_made c.args.change.now _ _ c.in-Err.ensures.commit.crash (λ db is_open may. g.met.S.Store.settled c.self.inside.conn.store db is_open may)
       (c.self.invariant.rests c.if-self.false));
+  version = version_stays _ _ c.reported_fault.ensures.crash
+      (version_or_made c.args.change.now _ _ c.in-Err.ensures.commit.crash (λ is_open. g.met.S.Store.stays c.self.inside.conn.store is_open)
+      (c.self.invariant.rests c.if-self.false) c.self.invariant.version);
 })
 
 pub returns-in-Err-clause-crash : goal.returns-in-Err-clause-crash

@@ -1,4 +1,4 @@
-use Rattle.std.proofs.Common.{ap, arith, ◌≡◌, Option, rules, subst, sym}
+use Rattle.std.proofs.Common.{ap, arith, ◌≡◌, ◌∙◌, Option, rules, subst, sym}
 use Rattle.house_rows.proofs.Sound.{fit_where}
 use Rattle.std.specs.Prelude.{Err, IfSome}
 use Rattle.sqlite.specs.Effect.{Database}
@@ -11,6 +11,7 @@ use Rattle.store_rows.specs.Tables.{tables_in}
 use Rattle.store_items.proofs.Small.{no_item}
 use Rattle.store.specs.Kept.{IsKnown}
 use Rattle.store.proofs.Absent.{no_row_kept}
+use Rattle.store.proofs.Houses.{version_stays}
 use Rattle.store.proofs.Known.{auction_is_consistent, found_is_kept, item_seen, known_row, known_serves, seen_auction, seen_is_consistent, seen_is_kept, works, failed_look}
 use Rattle.store.proofs.keep.SqlKeepKeep.auction.Goals as goal
 
@@ -48,6 +49,7 @@ returns-in-Some-clause-is_consistent g c = rw (← c.self.view_is) (λ honest.
 pub invariant_of-self : goal.invariant_of-self
 invariant_of-self g c = record {
   idle = search rules;
+  unlimited = c.in-Ok-auction_at.ensures.finds.read.crash.limit ∙ c.self.invariant.unlimited;
   moment = search rules;
   rests = search rules;
   known = λ going honest.
@@ -59,6 +61,7 @@ invariant_of-self g c = record {
   seen_fits = c.in-Ok-auction_at.ensures.fits;
   houses = search rules;
   one_schema = search rules;
+  version = version_stays _ _ c.in-Ok-auction_at.ensures.finds.read.crash c.self.invariant.version;
 }
 
 pub returns-in-Ok-auction_at-clause-is_consistent : goal.returns-in-Ok-auction_at-clause-is_consistent
