@@ -47,6 +47,7 @@ module _ {D : Type 0} (g : disk.Ghosts D) (keep : House (Renumbered (FileStore D
   ended stays usable copies = record {
     log = usable.0;
     file = usable.1;
+    copied = copies;
     house = λ clean. house_held (copies clean);
     kept = λ clean. left_held stays (copies clean);
   }

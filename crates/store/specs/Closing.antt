@@ -81,11 +81,13 @@ pub record HoldLeft {D : Type 0} (g : disk.Ghosts D) (keep : House (Renumbered (
   pub honest : IsHonest over_order keep
   pub left : (image : Image) → outcomes g files.log files.db image → MayHold keep image
 
--- A keep was ended, and these files are left of it. Where it had not failed they hold its house.
+-- A keep was ended, and these files are left of it. The database file has what the connection of the
+-- keep committed last, tree by tree, which is its house where it had not failed.
 pub record IsEnded {D : Type 0} (g : disk.Ghosts D) (keep : House (Renumbered (FileStore D g)))
     (files : Files D) : Type 0 where
   pub log : IsTrue (g.is_usable files.log)
   pub file : IsTrue (g.is_usable files.db)
+  pub copied : AreClean g files.log files.db → IsCopied keep.conn files
   pub house : AreClean g files.log files.db → keep.failed ≡ false
       → HoldTablesAlone g files (content over_order keep)
   pub kept : AreClean g files.log files.db → HoldLeft g keep files

@@ -77,9 +77,10 @@ impl<S: Alter + Drop> SqlKeep<S> {
     }
 }
 
-/// Ends a keep, and gives its files back. Where no call has answered Store, the database file then
-/// holds the house alone, with no need of its log, in the order that it had there. After an `Err` a
-/// crash of file and log leaves nothing that it could not have left before, but for the order.
+/// Ends a keep, and gives its files back. The database file then holds what was committed last, and
+/// that alone, with no need of its log, in the order that it had there. Where no call has answered
+/// Store that is the house. After an `Err` a crash of file and log leaves nothing that it could not
+/// have left before, but for the order.
 pub fn close_files<D: Disk + Drop>(
     keep: SqlKeep<Renumbered<FileStore<D>>>,
 ) -> (Result<(), KeepFault>, Files<D>)
