@@ -1,7 +1,8 @@
 //! Houses in files, opened over copies in memory.
-ghost use Rattle.std.specs.Prelude.{◌≡◌, false, IfOk};
-ghost use Rattle.auction.specs.Copies.{AreCopies};
+ghost use Rattle.std.specs.Prelude.{◌≡◌, true, false, IfOk};
+ghost use Rattle.auction.specs.Copies.{AreCopies, AreOnlyRead};
 ghost use Rattle.sqlite.specs.Files.{IsCleanLeft};
+ghost use Rattle.sqlite_std_file.specs.File.{IsFresh};
 ghost use Rattle.sqlite_wal.specs.Files.{image_at};
 ghost use Rattle.store.specs.Kept.{IsHonest, content, is_failed};
 
@@ -37,7 +38,9 @@ pub trait StoreInMemory: Sized + Alter + Drop {
             → AreCopies (content Self.Store) (IsHonest Self.Store) (image_at T.Start)
             both.left both.right) }
         ensures left { IfOk result (λ both. is_failed both.left ≡ false) }
-        ensures right { IfOk result (λ both. is_failed both.right ≡ false) };
+        ensures right { IfOk result (λ both. is_failed both.right ≡ false) }
+        ensures reads { IfOk result (λ both. path.now ≡ T.name → AreOnlyRead both.files
+            (λ files. IsFresh true files.log × IsFresh false files.db)) };
 }
 
 impl<M: InMemory> StoreInMemory for Renumbered<FileStore<M>> {
@@ -71,7 +74,9 @@ pub trait CopiedKeep: Sized + Keep + Drop {
         ensures copies { IfOk result (λ both. path.now ≡ T.name → IsCleanLeft both.files
             → AreCopies Self.content Self.is_honest (image_at T.Start) both.left both.right) }
         ensures left { IfOk result (λ both. Self.is_failed both.left ≡ false) }
-        ensures right { IfOk result (λ both. Self.is_failed both.right ≡ false) };
+        ensures right { IfOk result (λ both. Self.is_failed both.right ≡ false) }
+        ensures reads { IfOk result (λ both. path.now ≡ T.name → AreOnlyRead both.files
+            (λ files. IsFresh true files.log × IsFresh false files.db)) };
 }
 
 impl<S: StoreInMemory> CopiedKeep for SqlKeep<S> {

@@ -1,4 +1,4 @@
-use Rattle.std.proofs.Common.{◌∙◌, Bool, List, cond, ℕ, ap₂, subst, sym}
+use Rattle.std.proofs.Common.{◌∙◌, Bool, List, cond, ℕ, ap₂, refl, subst, sym}
 use Rattle.sqlite.specs.Files.{HoldsDatabase}
 use Rattle.sqlite_disk.specs.Events.{Event, replay}
 use Rattle.auction.proofs.Opened.{bytes_of}
@@ -19,3 +19,13 @@ returns-in-Ok-clause-copies g c = λ at clean.
           c.in-Ok.ensures.right clean honest held.db (subst (λ i. HoldsDatabase i held.db) (sym same) held.holds)
           ∙ sym held.tables;
     }
+
+pub returns-in-Ok-clause-reads : goal.returns-in-Ok-clause-reads
+returns-in-Ok-clause-reads g c = λ at. record {
+  first = c.in_ok-files.files;
+  fresh = c.in_ok-files.ensures.fresh at;
+  last = c.open_copies.new.files;
+  are_left = refl;
+  log = c.in-Ok.ensures.reads_log;
+  db = c.in-Ok.ensures.reads_db;
+}
