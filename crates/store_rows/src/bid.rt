@@ -1,6 +1,6 @@
 //! Rows of the table of bids.
 ghost use Rattle.std.specs.Prelude.{◌≡◌, IfOk, IsErrOf};
-ghost use Rattle.house_rows.specs.declared.fault.KeepFault.TheVariants.{Damaged};
+ghost use Rattle.house_rows.specs.declared.fault.KeepFault.TheVariants.{Damaged, Store};
 ghost use Rattle.store_rows.specs.Fitting.{BidFits};
 ghost use Rattle.store_rows.specs.Rows.{bid_of};
 
@@ -15,6 +15,7 @@ use sqlite::Row;
 fn report_bid(row: &Row) -> Result<Bid, KeepFault>
     ensures value { IfOk result (λ b. b ≡ (bid_of row.now).bid) }
     ensures damaged { BidFits (bid_of row.now).bid → ¬ (IsErrOf result Damaged) }
+    ensures working { ¬ (IsErrOf result Store) }
 {
     let no = number_at(row, 1)?;
     let member = number_at(row, 2)?;

@@ -1,7 +1,7 @@
 //! Rows of the table of categories.
 ghost use Rattle.std.specs.Prelude.{◌≡◌, IfOk, IsErrOf};
 ghost use Rattle.house_rows.specs.Fits.{CategoryFits};
-ghost use Rattle.house_rows.specs.declared.fault.KeepFault.TheVariants.{Damaged};
+ghost use Rattle.house_rows.specs.declared.fault.KeepFault.TheVariants.{Damaged, Store};
 ghost use Rattle.store_rows.specs.Rows.{category_of};
 
 use crate::columns::{number_at, text_at};
@@ -14,6 +14,7 @@ use sqlite::Row;
 fn report_category(row: &Row) -> Result<Category, KeepFault>
     ensures value { IfOk result (λ m. m ≡ category_of row.now) }
     ensures damaged { CategoryFits (category_of row.now) → ¬ (IsErrOf result Damaged) }
+    ensures working { ¬ (IsErrOf result Store) }
 {
     let category = number_at(row, 0)?;
     let name = text_at(row, 1)?;

@@ -2,7 +2,7 @@
 ghost use Rattle.std.specs.Prelude.{◌≡◌, ◌≢◌, ◌≤◌, ◌<◌, ◌^◌, IfErr, IfOk, IfSome, IsErrOf, length, option_map, string_bytes};
 ghost use Rattle.sqlite_value.specs.Order.{column};
 ghost use Rattle.house_rows.specs.Limits.{most_cents};
-ghost use Rattle.house_rows.specs.declared.fault.KeepFault.TheVariants.{Damaged, Memory};
+ghost use Rattle.house_rows.specs.declared.fault.KeepFault.TheVariants.{Damaged, Memory, Store};
 ghost use Rattle.store_rows.specs.Counts.{count_in};
 ghost use Rattle.store_rows.specs.Rows.{maybe_number_in, maybe_text_in, no_text, number_in, text_in};
 
@@ -17,6 +17,7 @@ pub(crate) fn value_at<T: FromSql>(row: &Row, at: usize) -> Result<T, KeepFault>
     ensures damaged { at < length row.now
         → T.FromSql.is_readable (column row.now at)
         → ¬ (IsErrOf result Damaged) }
+    ensures working { ¬ (IsErrOf result Store) }
 {
     match row.get(at) {
         Ok(value) => Ok(value),
@@ -29,6 +30,7 @@ pub(crate) fn value_at<T: FromSql>(row: &Row, at: usize) -> Result<T, KeepFault>
 pub fn number_at(row: &Row, at: usize) -> Result<u32, KeepFault>
     ensures value { IfOk result (λ n. n ≡ number_in (column row.now at)) }
     ensures damaged { number_in (column row.now at) < 2 ^ 32 → ¬ (IsErrOf result Damaged) }
+    ensures working { ¬ (IsErrOf result Store) }
 {
     value_at(row, at)
 }
@@ -37,6 +39,7 @@ pub fn number_at(row: &Row, at: usize) -> Result<u32, KeepFault>
 pub(crate) fn count_at(row: &Row, at: usize) -> Result<u64, KeepFault>
     ensures value { IfOk result (λ n. n ≡ count_in (column row.now at)) }
     ensures damaged { count_in (column row.now at) < 2 ^ 64 → ¬ (IsErrOf result Damaged) }
+    ensures working { ¬ (IsErrOf result Store) }
 {
     value_at(row, at)
 }
@@ -47,6 +50,7 @@ pub fn maybe_number_at(row: &Row, at: usize) -> Result<Option<u32>, KeepFault>
     ensures damaged { at < length row.now
         → IfSome (maybe_number_in (column row.now at)) (λ n. n < 2 ^ 32)
         → ¬ (IsErrOf result Damaged) }
+    ensures working { ¬ (IsErrOf result Store) }
 {
     value_at(row, at)
 }
@@ -55,6 +59,7 @@ pub fn maybe_number_at(row: &Row, at: usize) -> Result<Option<u32>, KeepFault>
 pub fn cents_at(row: &Row, at: usize) -> Result<Cents, KeepFault>
     ensures value { IfOk result (λ n. n ≡ number_in (column row.now at)) }
     ensures damaged { number_in (column row.now at) ≤ most_cents → ¬ (IsErrOf result Damaged) }
+    ensures working { ¬ (IsErrOf result Store) }
 {
     let amount = number_at(row, at)?;
     match Cents::new(u64::from(amount)) {
@@ -69,6 +74,7 @@ pub fn maybe_cents_at(row: &Row, at: usize) -> Result<Option<Cents>, KeepFault>
     ensures damaged { at < length row.now
         → IfSome (maybe_number_in (column row.now at)) (λ n. n ≤ most_cents)
         → ¬ (IsErrOf result Damaged) }
+    ensures working { ¬ (IsErrOf result Store) }
 {
     let Some(amount) = maybe_number_at(row, at)? else {
         return Ok(None);
@@ -83,6 +89,7 @@ pub fn maybe_cents_at(row: &Row, at: usize) -> Result<Option<Cents>, KeepFault>
 pub(crate) fn text_at(row: &Row, at: usize) -> Result<Text, KeepFault>
     ensures value { IfOk result (λ t. t ≡ text_in (column row.now at)) }
     ensures damaged { text_in (column row.now at) ≢ no_text → ¬ (IsErrOf result Damaged) }
+    ensures working { ¬ (IsErrOf result Store) }
 {
     let text = value_at(row, at)?;
     let shared = text_of(text)?;
@@ -95,6 +102,7 @@ pub(crate) fn maybe_text_at(row: &Row, at: usize) -> Result<Option<Text>, KeepFa
     ensures damaged { at < length row.now
         → IfSome (maybe_text_in (column row.now at)) (λ t. t ≢ no_text)
         → ¬ (IsErrOf result Damaged) }
+    ensures working { ¬ (IsErrOf result Store) }
 {
     let text = value_at(row, at)?;
     let shared = maybe_text_of(text)?;

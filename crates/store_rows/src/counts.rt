@@ -1,6 +1,6 @@
 //! A count that was read.
 ghost use Rattle.std.specs.Prelude.{◌≡◌, Some, IfOk, ℕ, ◌<◌, ◌^◌, IsErrOf};
-ghost use Rattle.house_rows.specs.declared.fault.KeepFault.TheVariants.{Damaged};
+ghost use Rattle.house_rows.specs.declared.fault.KeepFault.TheVariants.{Damaged, Store};
 ghost use Rattle.store_rows.specs.Counts.{first_number};
 
 use crate::columns::count_at;
@@ -14,6 +14,7 @@ pub fn read_count(rows: &[Row]) -> Result<u64, KeepFault>
         → first_number rows.now ≡ Some n
         → n < 2 ^ 64
         → ¬ (IsErrOf result Damaged) }
+    ensures working { ¬ (IsErrOf result Store) }
 {
     match rows.first() {
         Some(row) => count_at(row, 0),

@@ -2,7 +2,7 @@
 ghost use Rattle.std.specs.Prelude.{◌≡◌, true, IfOk, IsErrOf};
 ghost use Rattle.sqlite_value.specs.Order.{column};
 ghost use Rattle.house_rows.specs.Fits.{FeedbackFits};
-ghost use Rattle.house_rows.specs.declared.fault.KeepFault.TheVariants.{Damaged};
+ghost use Rattle.house_rows.specs.declared.fault.KeepFault.TheVariants.{Damaged, Store};
 ghost use Rattle.store_rows.specs.Rows.{feedback_of, is_rating, rating_in};
 
 use crate::columns::{number_at, text_at, value_at};
@@ -16,6 +16,7 @@ fn read_rating(row: &Row, at: usize) -> Result<Rating, KeepFault>
     ensures rating { IfOk result (λ r. r ≡ rating_in (column row.now at)) }
     ensures stored { IfOk result (λ r. is_rating (column row.now at) ≡ true) }
     ensures damaged { is_rating (column row.now at) ≡ true → ¬ (IsErrOf result Damaged) }
+    ensures working { ¬ (IsErrOf result Store) }
 {
     let number: i64 = value_at(row, at)?;
     match number {
@@ -30,6 +31,7 @@ fn read_rating(row: &Row, at: usize) -> Result<Rating, KeepFault>
 fn report_feedback(row: &Row) -> Result<Feedback, KeepFault>
     ensures value { IfOk result (λ f. f ≡ feedback_of row.now) }
     ensures damaged { FeedbackFits (feedback_of row.now) → ¬ (IsErrOf result Damaged) }
+    ensures working { ¬ (IsErrOf result Store) }
 {
     let item = number_at(row, 0)?;
     let from = number_at(row, 1)?;

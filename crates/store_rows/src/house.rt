@@ -2,7 +2,7 @@
 ghost use Rattle.std.specs.Prelude.{◌≡◌, ◌==◌, ◌<◌, ◌^◌, find, option_map, IfOk, OnOk, IsErrOf, IfSome};
 ghost use Rattle.sqlite.specs.State.{HasCleanDisk, Survives};
 ghost use Rattle.sqlite.specs.Held.{state};
-ghost use Rattle.house_rows.specs.declared.fault.KeepFault.TheVariants.{Damaged};
+ghost use Rattle.house_rows.specs.declared.fault.KeepFault.TheVariants.{Damaged, Store};
 ghost use Rattle.store_rows.specs.Fitting.{HouseRowFits};
 ghost use Rattle.store_rows.specs.House.{IsBegun, IsInside, Serves, SetsClock, SetsVersion};
 ghost use Rattle.store_rows.specs.Rows.{house_of, houses_in};
@@ -38,6 +38,7 @@ pub struct HouseRow {
 fn report_house(row: &Row) -> Result<HouseRow, KeepFault>
     ensures value { IfOk result (λ h. h ≡ house_of row.now) }
     ensures damaged { HouseRowFits (house_of row.now) → ¬ (IsErrOf result Damaged) }
+    ensures working { ¬ (IsErrOf result Store) }
 {
     let id = number_at(row, 0)?;
     let version = number_at(row, 1)?;

@@ -2,7 +2,7 @@
 ghost use Rattle.std.specs.Prelude.{◌≡◌, IfOk, IsErrOf, true};
 ghost use Rattle.sqlite_value.specs.Order.{column};
 ghost use Rattle.house_rows.specs.Fits.{ItemFits, TermsFit};
-ghost use Rattle.house_rows.specs.declared.fault.KeepFault.TheVariants.{Damaged};
+ghost use Rattle.house_rows.specs.declared.fault.KeepFault.TheVariants.{Damaged, Store};
 ghost use Rattle.store_rows.specs.Columns.{AreTerms, HasTexts};
 ghost use Rattle.store_rows.specs.ItemRows.{is_state, item_of, state_in, terms_of};
 
@@ -17,6 +17,7 @@ fn state_at(row: &Row, at: usize) -> Result<State, KeepFault>
     ensures state { IfOk result (λ s. s ≡ state_in (column row.now at)) }
     ensures stored { IfOk result (λ s. is_state (column row.now at) ≡ true) }
     ensures damaged { is_state (column row.now at) ≡ true → ¬ (IsErrOf result Damaged) }
+    ensures working { ¬ (IsErrOf result Store) }
 {
     let number = number_at(row, at)?;
     match number {
@@ -32,6 +33,7 @@ fn state_at(row: &Row, at: usize) -> Result<State, KeepFault>
 fn report_terms(row: &Row) -> Result<Terms, KeepFault>
     ensures value { IfOk result (λ t. t ≡ terms_of row.now) }
     ensures damaged { AreTerms row.now → ¬ (IsErrOf result Damaged) }
+    ensures working { ¬ (IsErrOf result Store) }
 {
     Ok(Terms {
         item: number_at(row, 0)?,
@@ -69,6 +71,7 @@ impl Stored for Terms {
 fn report_item(row: &Row) -> Result<Item, KeepFault>
     ensures value { IfOk result (λ i. i ≡ item_of row.now) }
     ensures damaged { AreTerms row.now → HasTexts row.now → ¬ (IsErrOf result Damaged) }
+    ensures working { ¬ (IsErrOf result Store) }
 {
     let terms = report_terms(row)?;
     let lot = text_at(row, 11)?;

@@ -1,7 +1,7 @@
 //! Rows of the table of members.
 ghost use Rattle.std.specs.Prelude.{◌≡◌, IfOk, IsErrOf};
 ghost use Rattle.house_rows.specs.Fits.{MemberFits};
-ghost use Rattle.house_rows.specs.declared.fault.KeepFault.TheVariants.{Damaged};
+ghost use Rattle.house_rows.specs.declared.fault.KeepFault.TheVariants.{Damaged, Store};
 ghost use Rattle.store_rows.specs.Rows.{member_of};
 
 use crate::columns::{number_at, text_at};
@@ -14,6 +14,7 @@ use sqlite::Row;
 fn report_member(row: &Row) -> Result<Member, KeepFault>
     ensures value { IfOk result (λ m. m ≡ member_of row.now) }
     ensures damaged { MemberFits (member_of row.now) → ¬ (IsErrOf result Damaged) }
+    ensures working { ¬ (IsErrOf result Store) }
 {
     let member = number_at(row, 0)?;
     let name = text_at(row, 1)?;

@@ -1,7 +1,7 @@
 //! Rows of the table of questions.
 ghost use Rattle.std.specs.Prelude.{◌≡◌, IfOk, IsErrOf};
 ghost use Rattle.house_rows.specs.Fits.{QuestionFits};
-ghost use Rattle.house_rows.specs.declared.fault.KeepFault.TheVariants.{Damaged};
+ghost use Rattle.house_rows.specs.declared.fault.KeepFault.TheVariants.{Damaged, Store};
 ghost use Rattle.store_rows.specs.Rows.{question_of};
 
 use crate::columns::{maybe_text_at, number_at, text_at};
@@ -14,6 +14,7 @@ use sqlite::Row;
 fn report_question(row: &Row) -> Result<Question, KeepFault>
     ensures value { IfOk result (λ q. q ≡ question_of row.now) }
     ensures damaged { QuestionFits (question_of row.now) → ¬ (IsErrOf result Damaged) }
+    ensures working { ¬ (IsErrOf result Store) }
 {
     let item = number_at(row, 0)?;
     let asker = number_at(row, 1)?;

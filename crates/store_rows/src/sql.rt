@@ -1,5 +1,5 @@
 //! What every statement on a house, and every commit, leaves beside its answer.
-ghost use Rattle.std.specs.Prelude.{◌≡◌, ◌≢◌, ◌↔◌, ℕ, Ok, false, IfOk, OnOk, IsErrOf, IsTrue, OnErr};
+ghost use Rattle.std.specs.Prelude.{◌≡◌, ◌≢◌, ◌↔◌, ◌≤◌, ◌^◌, ℕ, Ok, false, IfErr, IfOk, OnOk, IsErrOf, IsTrue, OnErr};
 ghost use Rattle.house_rows.specs.declared.fault.KeepFault.TheVariants.{Damaged, Memory};
 ghost use Rattle.sqlite.specs.declared.error.Error.TheVariants.{SqliteFailure};
 ghost use Rattle.sqlite.specs.declared.error.ErrorCode.TheVariants.{OutOfMemory};
@@ -88,6 +88,7 @@ pub fn run<S: Alter>(
 pub fn stored_moment(moment: u64) -> Result<u32, KeepFault>
     ensures value { IfOk result (λ m. m ≡ moment) }
     ensures damaged { IsMoment moment → ¬ (IsErrOf result Damaged) }
+    ensures err { IfErr result (λ fault. (fault ≡ Damaged) × (2 ^ 32 ≤ moment)) }
 {
     match u32::try_from(moment) {
         Ok(moment) => Ok(moment),

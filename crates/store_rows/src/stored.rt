@@ -2,7 +2,7 @@
 ghost use Rattle.std.specs.Prelude.{◌≡◌, ◌<◌, ◌^◌, IfOk, IfSome, IsErrOf, map, option_map, slice_get};
 ghost use Rattle.std.specs.List.{AllByRecursion};
 ghost use Rattle.sqlite_value.specs.Order.{Row as Columns, column};
-ghost use Rattle.house_rows.specs.declared.fault.KeepFault.TheVariants.{Damaged};
+ghost use Rattle.house_rows.specs.declared.fault.KeepFault.TheVariants.{Damaged, Store};
 ghost use Rattle.store_rows.specs.Rows.{number_in};
 
 use crate::columns::number_at;
@@ -22,7 +22,8 @@ pub trait Stored: Sized + Drop {
     fn read(row: &Row) -> Result<Self, KeepFault>
         ensures value { IfOk result (λ it. it ≡ report row.now) }
         ensures fits { IfOk result fits }
-        ensures damaged { fits (report row.now) → ¬ (IsErrOf result Damaged) };
+        ensures damaged { fits (report row.now) → ¬ (IsErrOf result Damaged) }
+        ensures working { ¬ (IsErrOf result Store) };
 }
 
 // A number that is shown alone.
@@ -42,6 +43,7 @@ pub fn first_of<T: Stored>(rows: &[Row]) -> Result<Option<T>, KeepFault>
     ensures fits { IfOk result (λ found. IfSome found T.fits) }
     ensures damaged { IfSome (option_map T.report (slice_get rows.now 0)) T.fits
         → ¬ (IsErrOf result Damaged) }
+    ensures working { ¬ (IsErrOf result Store) }
 {
     match rows.first() {
         None => Ok(None),
@@ -54,6 +56,7 @@ pub fn all_of<T: Stored>(alloc: Global, rows: &[Row]) -> Result<Vec<T>, KeepFaul
     ensures value { IfOk result (λ all. all.items ≡ map T.report rows.now) }
     ensures fits { IfOk result (λ all. AllByRecursion T.fits all.items) }
     ensures damaged { AllByRecursion T.fits (map T.report rows.now) → ¬ (IsErrOf result Damaged) }
+    ensures working { ¬ (IsErrOf result Store) }
 {
     let mut all = Vec::new(alloc);
     for row in rows {
