@@ -1,5 +1,5 @@
 -- Why a band table was not set, or not told of.
-use Rattle.std.proofs.Common.{◌≡◌, ◌⊎◌, ◌↔◌, ◌∙◌, ℕ, List, Bool, true, false, Option, Result, Ok, Err, inl, inr, refl, subst, sym}
+use Rattle.std.proofs.Common.{◌≡◌, ◌⊎◌, ◌↔◌, ◌∙◌, ℕ, List, Bool, true, false, Option, Result, Ok, Err, ap, inl, inr, refl, subst, sym}
 use Rattle.std.specs.Prelude.{IfErr, IfOk, IsErr, IsErrAnd, IsErrOf, IsOk, OnErr, OnOk}
 use Rattle.std.specs.Io.KnownBytes.{Keeps}
 use Rattle.steps.specs.Table.{Band}
@@ -7,7 +7,8 @@ use Rattle.house.specs.Decided.{IfAccepted, IsDecided}
 use Rattle.house.specs.Decides.{Decides}
 use Rattle.house.specs.Own.{IsOf, command_of}
 use Rattle.house_rows.specs.Asks.{ChangeFits, IsFree}
-use Rattle.house_rows.specs.Keeping.{AreSound}
+use Rattle.house_rows.specs.Changed.{changed}
+use Rattle.house_rows.specs.Keeping.{AreSound, IsRead}
 use Rattle.house_rows.specs.Making.{ChangeRowsFit, IsApplied}
 use Rattle.house_rows.specs.Tables.{Tables}
 use Rattle.house_rows.specs.Taken.{IsUndamaged}
@@ -21,7 +22,7 @@ use Rattle.house_rows.specs.declared.keep.Keep as keep
 use Rattle.house_rows.specs.declared.refusal.Refusal.{Refusal}
 use Rattle.auction_runs.proofs.Outcomes.{either_end}
 use Rattle.auction_runs.specs.Faults.{IsEndFault, fault_of_keep}
-use Rattle.auction_runs.specs.Tabled.{HasSet, IsTable, IsTabled, IsUndone, IsUntabled, IsUntold}
+use Rattle.auction_runs.specs.Tabled.{HasSet, IsOwnChange, IsOwnOrNone, IsTable, IsTabled, IsUndone, IsUntabled, IsUntold}
 use Rattle.auction_runs.specs.declared.fault.TaskFault.{TaskFault}
 use Rattle.auction_runs.specs.declared.fault.TaskFault.TheVariants.{Refused, Write}
 
@@ -36,21 +37,26 @@ pub reported : {K A : Type 0} (content : K → Tables) (is_failed : K → Bool) 
     (moment : ℕ) (command : Command) (old new : K) (r : Result A KeepFault) (f : KeepFault)
     → r ≡ Err f → (IsErrOf r kept.Store ↔ (is_failed new ≡ true))
     → (is_honest new → AreSound (content old) → IsUndamaged r)
+    → (is_honest new → is_failed new ≡ false
+    → IsOwnOrNone moment command (content old) (content new))
     → IsUndone content is_failed is_honest moment command old new (fault_of_keep f)
-reported content is_failed is_honest moment command old new r kept.Memory gave store sound = record {
+reported content is_failed is_honest moment command old new r kept.Memory gave store sound own = record {
   cause = inl (kept.Memory, refl);
   store = (λ e. absurd cc, λ failed. let other = store.1 failed in absurd cc);
   damaged = λ honest is e. absurd cc;
+  same = own;
 }
-reported content is_failed is_honest moment command old new r kept.Store gave store sound = record {
+reported content is_failed is_honest moment command old new r kept.Store gave store sound own = record {
   cause = inl (kept.Store, refl);
   store = (λ e. store.0 gave, λ failed. refl);
   damaged = λ honest is e. absurd cc;
+  same = own;
 }
-reported content is_failed is_honest moment command old new r kept.Damaged gave store sound = record {
+reported content is_failed is_honest moment command old new r kept.Damaged gave store sound own = record {
   cause = inl (kept.Damaged, refl);
   store = (λ e. absurd cc, λ failed. let other = store.1 failed in absurd cc);
   damaged = λ honest is e. sound honest is gave;
+  same = own;
 }
 
 -- and is handed on
@@ -60,12 +66,14 @@ pub handed_on : {K A T : Type 0} (content : K → Tables) (is_failed : K → Boo
     → IsErr result × IsErrAnd result (λ report. report ≡ fault_of_keep f)
     → r ≡ Err f → (IsErrOf r kept.Store ↔ (is_failed new ≡ true))
     → (is_honest new → AreSound (content old) → IsUndamaged r)
+    → (is_honest new → is_failed new ≡ false
+    → IsOwnOrNone moment command (content old) (content new))
     → IfErr result (IsUndone content is_failed is_honest moment command old new)
-handed_on content is_failed is_honest moment command old new r f (Ok x) gives gave store sound =
+handed_on content is_failed is_honest moment command old new r f (Ok x) gives gave store sound own =
     absurd gives.1
-handed_on content is_failed is_honest moment command old new r f (Err report) gives gave store sound =
-    subst (IsUndone content is_failed is_honest moment command old new) (sym gives.1)
-    (reported content is_failed is_honest moment command old new r f gave store sound)
+handed_on content is_failed is_honest moment command old new r f (Err report) gives gave store sound
+    own = subst (IsUndone content is_failed is_honest moment command old new) (sym gives.1)
+    (reported content is_failed is_honest moment command old new r f gave store sound own)
 
 -- the house refused its command
 pub refused : {K : Type 0} (k : keep.Ghosts K) (moment : ℕ) (command : Command) (old new : K)
@@ -85,7 +93,90 @@ refused k moment command old new decided refusal decides is =
       });
       store = (λ e. absurd cc, λ failed. absurd cc);
       damaged = λ honest sound e. absurd cc;
+      same = λ honest well. inl (decides.read.same honest well);
     }
+
+-- a keep that was only read has the tables that it had
+pub only_read : {K : Type 0} (content : K → Tables) (is_failed : K → Bool) (is_honest : K → Type 0)
+    (may_leave : K → Tables → Type 0) (moment : ℕ) (command : Command) (old new : K)
+    → IsRead content is_failed is_honest may_leave old new → is_honest new → is_failed new ≡ false
+    → IsOwnOrNone moment command (content old) (content new)
+only_read content is_failed is_honest may_leave moment command old new read honest well =
+    inl (read.same honest well)
+
+-- and a crash leaves what it could leave before
+pub only_left : {K : Type 0} (content : K → Tables) (is_failed : K → Bool) (is_honest : K → Type 0)
+    (may_leave : K → Tables → Type 0) (moment : ℕ) (command : Command) (old new : K)
+    → IsRead content is_failed is_honest may_leave old new → is_honest new → (t : Tables)
+    → may_leave new t → may_leave old t ⊎ IsOwnChange moment command (content old) t
+only_left content is_failed is_honest may_leave moment command old new read honest t may =
+    inl (read.crash honest t may)
+
+-- the change that was decided on is the command's own, and is of the tables as they were
+own_change : {K : Type 0} (k : keep.Ghosts K) (moment : ℕ) (command : Command) (old mid : K)
+    (decided : Result (Result Change Refusal) KeepFault) (made : Change)
+    → Decides k old mid decided moment 0 command → decided ≡ Ok (Ok made) → k.is_honest mid
+    → IsOf moment 0 command made × (k.content mid ≡ k.content old)
+own_change k moment command old mid decided made decides is honest = (
+  subst (λ v. IfAccepted v (IsOf moment 0 command)) is (decides.own honest),
+  decides.read.same honest (works decided (k.is_failed mid) (Ok made) is decides.faults.store),
+)
+
+-- these are the tables with it
+by_own_change : (moment : ℕ) (command : Command) (made : Change) (old mid new : Tables)
+    → IsOf moment 0 command made × (mid ≡ old) → new ≡ changed mid made
+    → IsOwnChange moment command old new
+by_own_change moment command made old mid new (own, same) is = record {
+  change = made;
+  own = own;
+  made = is ∙ ap (λ t. changed t made) same;
+}
+
+-- where it was made the tables are those with it
+pub own_made : {K : Type 0} (k : keep.Ghosts K) (moment : ℕ) (command : Command) (old mid new : K)
+    (decided : Result (Result Change Refusal) KeepFault) (made : Change)
+    (r : Result (Unit {0}) KeepFault) (u : Unit {0})
+    → Decides k old mid decided moment 0 command → decided ≡ Ok (Ok made)
+    → IsApplied k.content k.is_failed k.is_honest k.may_leave mid new r made → r ≡ Ok u
+    → k.is_honest new → IsOwnChange moment command (k.content old) (k.content new)
+own_made k moment command old mid new decided made r u decides is applied gave honest =
+    by_own_change moment command made (k.content old) (k.content mid) (k.content new)
+    (own_change k moment command old mid decided made decides is (applied.honest honest))
+    (subst (λ v. OnOk v (k.content new ≡ changed (k.content mid) made)) gave (applied.ok honest))
+
+-- and whether it was made or not, nothing else was
+pub own_or_none : {K : Type 0} (k : keep.Ghosts K) (moment : ℕ) (command : Command) (old mid new : K)
+    (decided : Result (Result Change Refusal) KeepFault) (made : Change)
+    (r : Result (Unit {0}) KeepFault) → Decides k old mid decided moment 0 command
+    → decided ≡ Ok (Ok made)
+    → IsApplied k.content k.is_failed k.is_honest k.may_leave mid new r made
+    → k.is_honest new → k.is_failed new ≡ false
+    → IsOwnOrNone moment command (k.content old) (k.content new)
+own_or_none k moment command old mid new decided made (Ok u) decides is applied honest well =
+    inr (own_made k moment command old mid new decided made (Ok u) u decides is applied refl honest)
+own_or_none k moment command old mid new decided made (Err f) decides is applied honest well =
+    let was = own_change k moment command old mid decided made decides is (applied.honest honest) in
+    inl (applied.err honest well ∙ was.1)
+
+-- nor does a crash leave anything else
+pub own_left : {K : Type 0} (k : keep.Ghosts K) (moment : ℕ) (command : Command) (old mid new : K)
+    (decided : Result (Result Change Refusal) KeepFault) (made : Change)
+    (r : Result (Unit {0}) KeepFault) → Decides k old mid decided moment 0 command
+    → decided ≡ Ok (Ok made)
+    → IsApplied k.content k.is_failed k.is_honest k.may_leave mid new r made
+    → k.is_honest new → (t : Tables) → k.may_leave new t
+    → k.may_leave old t ⊎ IsOwnChange moment command (k.content old) t
+own_left k moment command old mid new decided made (Ok u) decides is applied honest t may =
+    inr (by_own_change moment command made (k.content old) (k.content mid) t
+    (own_change k moment command old mid decided made decides is (applied.honest honest))
+    (applied.kept honest t may ∙ applied.ok honest))
+own_left k moment command old mid new decided made (Err f) decides is applied honest t may =
+    let was = own_change k moment command old mid decided made decides is (applied.honest honest) in
+    elim (applied.crash honest t may) [
+      | inl before ↦ inl (decides.read.crash (applied.honest honest) t before)
+      | inr (worked, failed, after) ↦ inr (by_own_change moment command made (k.content old)
+          (k.content mid) t was after)
+    ]
 
 -- the rows that setting a table takes are those of sound tables, and its key is free
 table_fits : (t : Tables) (made : Change) (bands : List Band) → command_of made ≡ SetBands bands

@@ -1,6 +1,9 @@
 -- A band table was set in a house, or why it wasn't.
-use Rattle.std.specs.Prelude.{◌≡◌, ◌≢◌, ◌↔◌, ◌⊎◌, ℕ, List, ◌∷◌, Bool, true, Option, Some, None}
+use Rattle.std.specs.Prelude.{◌≡◌, ◌≢◌, ◌↔◌, ◌⊎◌, ℕ, List, ◌∷◌, Bool, true, false, Option, Some, None}
 use Rattle.std.specs.Io.KnownBytes.{Appends, Keeps}
+use Rattle.house.specs.Own.{IsOf}
+use Rattle.house_rows.specs.Changed.{changed}
+use Rattle.house_rows.specs.declared.change.Change.{Change}
 use Rattle.house_rows.specs.declared.command.Command.{Command}
 use Rattle.house_rows.specs.declared.command.Command.TheVariants.{SetBands}
 use Rattle.house_rows.specs.declared.refusal.Refusal.{Refusal}
@@ -22,11 +25,22 @@ use Rattle.auction_runs.specs.declared.fault.TaskFault.TheVariants.{Damaged, Ref
 abbrev pub IsTable : Command → Type 0
 IsTable command = (bands : List Band) × (command ≡ SetBands bands)
 
--- the house's command was accepted over the tables of a history, the new tables are those with it,
--- and this is its edition. No crash takes it back
+-- one change was made to tables, which is the command's own, of the house and at the moment
+pub record IsOwnChange (moment : ℕ) (command : Command) (old new : Tables) : Type 0 where
+  pub change : Change
+  pub own : IsOf moment 0 command change
+  pub made : new ≡ changed old change
+
+-- it was, or nothing was changed
+abbrev pub IsOwnOrNone : ℕ → Command → Tables → Tables → Type 0
+IsOwnOrNone moment command old new = (new ≡ old) ⊎ IsOwnChange moment command old new
+
+-- The house's command was made, over whatever tables, and this is its edition. Over the tables of a
+-- history it was accepted, and the new tables are those with it. No crash takes it back
 pub record IsTabled {K : Type 0} (content : K → Tables) (may_leave : K → Tables → Type 0)
     (moment : ℕ) (command : Command) (old new : K) (edition : ℕ) : Type 0 where
   pub newest : edition ≡ newest_in (band_tables (content new))
+  pub made : IsOwnChange moment command (content old) (content new)
   pub by_history : (settings : Settings) (h : History) → IsHistory settings h
       → content old ≡ tables_of settings h
       → (verdict settings h moment 0 command ≡ None)
@@ -44,12 +58,14 @@ pub record IsRefused {K : Type 0} (content : K → Tables) (is_honest : K → Ty
 
 -- why a keep didn't do what the command asks for, or didn't tell the edition: it reported the fault
 -- itself, Store exactly where it has failed, and Damaged only over tables that aren't sound; or the
--- command is refused
+-- command is refused. Where the keep has not failed nothing else was done to its tables
 pub record IsUndone {K : Type 0} (content : K → Tables) (is_failed : K → Bool) (is_honest : K → Type 0)
     (moment : ℕ) (command : Command) (old new : K) (fault : TaskFault) : Type 0 where
   pub cause : IsOfKeep fault ⊎ IsRefused content is_honest moment command old new fault
   pub store : (fault ≡ Store) ↔ (is_failed new ≡ true)
   pub damaged : is_honest new → AreSound (content old) → fault ≢ Damaged
+  pub same : is_honest new → is_failed new ≡ false
+      → IsOwnOrNone moment command (content old) (content new)
 
 -- the keep that was given took the command as this edition, and its end left what is named
 pub record HasSet {K : Type 0} (content : K → Tables) (is_honest : K → Type 0)
@@ -88,8 +104,9 @@ pub record HasTabled {K : Type 0} (content : K → Tables) (is_honest : K → Ty
   pub set : HasSet content is_honest may_leave is_ended moment command given edition
   pub printed : Appends before after (edition_line edition)
 
--- A crash after the command leaves what it could leave before, or over the tables of a history by
--- whose verdict the command is accepted those of the history with it.
+-- A crash after the command leaves what it could leave before, or the tables with the command's own
+-- change: over those of a history only where its verdict accepts the command, and then those of the
+-- history with it.
 pub record MayTable {K : Type 0} (content : K → Tables) (is_honest : K → Type 0)
     (may_leave : K → Tables → Type 0) (moment : ℕ) (command : Command) (old new : K) : Type 0 where
   pub honest : is_honest new → is_honest old
@@ -97,6 +114,8 @@ pub record MayTable {K : Type 0} (content : K → Tables) (is_honest : K → Typ
       → content old ≡ tables_of settings h → (t : Tables) → may_leave new t
       → may_leave old t ⊎ ((verdict settings h moment 0 command ≡ None)
       × (t ≡ tables_of settings (entry moment 0 command ∷ h)))
+  pub crash : is_honest new → (t : Tables) → may_leave new t
+      → may_leave old t ⊎ IsOwnChange moment command (content old) t
 
 -- this is left of a keep that was given the command, however that ended
 pub record IsTabledOver {K L : Type 0} (content : K → Tables) (is_honest : K → Type 0)

@@ -17,7 +17,7 @@ use std::io::Write;
 const HOUSE: u64 = 0;
 
 // Has the house set the table that a command asks for at a moment, and gives the newest edition
-// after it.
+// after it. Whatever the tables are, the command's own change is made to them or nothing is.
 fn set_bands<K: Keep>(keep: &mut K, moment: u64, command: &Command) -> Result<u32, TaskFault>
     requires table { IsTable command.now }
     ensures done { K.is_honest keep.new → IfOk result
@@ -83,7 +83,7 @@ fn write_outcome<W: Write>(output: &mut W, set: Result<u32, TaskFault>) -> Resul
 
 /// Sets a band table in a house, ends its keep, reports the edition, and gives the exit status and
 /// what is left of the keep. A fault is written in its line on `errors`, and so is the refusal of the
-/// house.
+/// house. Whatever the tables are, nothing else is done to them.
 pub fn bands_run<W: Write, E: Sink, K: Keep + Ends>(
     output: &mut W,
     errors: &mut E,
