@@ -14,17 +14,17 @@ pub unbegun : {S : Type 0} (is_honest : Type 0) (is_failed : Bool) (content : Ta
 unbegun is_honest is_failed content Memory begun = record {
   reported = (Memory, refl);
   store = (λ e. absurd cc, λ failed. let other = begun.store.1 failed in absurd cc);
-  damaged = λ honest sound e. absurd cc;
+  damaged = λ honest e. absurd cc;
 }
 unbegun is_honest is_failed content Store begun = record {
   reported = (Store, refl);
   store = (λ e. begun.store.0 refl, λ failed. refl);
-  damaged = λ honest sound e. absurd cc;
+  damaged = λ honest e. absurd cc;
 }
 unbegun is_honest is_failed content Damaged begun = record {
   reported = (Damaged, refl);
   store = (λ e. absurd cc, λ failed. let other = begun.store.1 failed in absurd cc);
-  damaged = λ honest sound e. begun.damaged honest sound refl;
+  damaged = λ honest e. begun.damaged honest refl;
 }
 
 -- a site is begun only over a keep that works

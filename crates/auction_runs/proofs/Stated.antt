@@ -6,6 +6,7 @@ use Rattle.device.specs.Given.{AppendsBeginning}
 use Rattle.house_rows.specs.Keeping.{AreSound, IsRead}
 use Rattle.house_rows.specs.Pages.{member_at}
 use Rattle.house_rows.specs.Tables.{Tables}
+use Rattle.house_rows.specs.Taken.{MemberFitsAt, SalesFit}
 use Rattle.house_rows.specs.declared.fault.KeepFault.{KeepFault}
 use Rattle.house_rows.specs.declared.fault.KeepFault.TheVariants as kept
 use Rattle.house_rows.specs.declared.keep.Keep as keep
@@ -30,37 +31,50 @@ unread : {K A : Type 0} (content : K → Tables) (is_failed : K → Bool) (is_ho
     → (IsErrOf r stating.Order → asked.to < asked.from)
     → (is_honest new → AreSound (content old) → IsErrOf r stating.Damaged
     → ¬ (IsReadable (content old).settings.zone))
+    → (is_honest new → MemberFitsAt asked.member (content old)
+    → SalesFit asked.member (content old) → IsErrOf r stating.Damaged
+    → ¬ (IsReadable (content old).settings.zone))
     → (IsErrOf r stating.Store ↔ (is_failed new ≡ true))
     → IsUnread content is_failed is_honest asked old new (fault_of_statement f)
-unread content is_failed is_honest asked old new r stating.Memory gave member order damaged store =
+unread content is_failed is_honest asked old new r stating.Memory gave member order damaged undamaged
+    store =
     record {
       cause = inl (kept.Memory, refl);
       store = (λ e. absurd cc, λ failed. let other = store.1 failed in absurd cc);
       damaged = λ honest sound e. absurd cc;
+      undamaged = λ honest fit sales e. absurd cc;
     }
-unread content is_failed is_honest asked old new r stating.Store gave member order damaged store =
+unread content is_failed is_honest asked old new r stating.Store gave member order damaged undamaged
+    store =
     record {
       cause = inl (kept.Store, refl);
       store = (λ e. store.0 gave, λ failed. refl);
       damaged = λ honest sound e. absurd cc;
+      undamaged = λ honest fit sales e. absurd cc;
     }
-unread content is_failed is_honest asked old new r stating.Damaged gave member order damaged store =
+unread content is_failed is_honest asked old new r stating.Damaged gave member order damaged undamaged
+    store =
     record {
       cause = inl (kept.Damaged, refl);
       store = (λ e. absurd cc, λ failed. let other = store.1 failed in absurd cc);
       damaged = λ honest sound e. damaged honest sound gave;
+      undamaged = λ honest fit sales e. undamaged honest fit sales gave;
     }
-unread content is_failed is_honest asked old new r stating.Order gave member order damaged store =
+unread content is_failed is_honest asked old new r stating.Order gave member order damaged undamaged
+    store =
     record {
       cause = inr (inl (refl, order gave));
       store = (λ e. absurd cc, λ failed. let other = store.1 failed in absurd cc);
       damaged = λ honest sound e. absurd cc;
+      undamaged = λ honest fit sales e. absurd cc;
     }
-unread content is_failed is_honest asked old new r stating.Member gave member order damaged store =
+unread content is_failed is_honest asked old new r stating.Member gave member order damaged undamaged
+    store =
     record {
       cause = inr (inr (refl, λ honest. member honest gave));
       store = (λ e. absurd cc, λ failed. let other = store.1 failed in absurd cc);
       damaged = λ honest sound e. absurd cc;
+      undamaged = λ honest fit sales e. absurd cc;
     }
 
 -- and is handed on
@@ -73,13 +87,16 @@ pub handed_on : {K A T : Type 0} (content : K → Tables) (is_failed : K → Boo
     → (IsErrOf r stating.Order → asked.to < asked.from)
     → (is_honest new → AreSound (content old) → IsErrOf r stating.Damaged
     → ¬ (IsReadable (content old).settings.zone))
+    → (is_honest new → MemberFitsAt asked.member (content old)
+    → SalesFit asked.member (content old) → IsErrOf r stating.Damaged
+    → ¬ (IsReadable (content old).settings.zone))
     → (IsErrOf r stating.Store ↔ (is_failed new ≡ true))
     → IfErr result (IsUnread content is_failed is_honest asked old new)
-handed_on content is_failed is_honest asked old new r f (Ok x) gives gave member order damaged store =
-    absurd gives.1
+handed_on content is_failed is_honest asked old new r f (Ok x) gives gave member order damaged undamaged
+    store = absurd gives.1
 handed_on content is_failed is_honest asked old new r f (Err report) gives gave member order damaged
-    store = subst (IsUnread content is_failed is_honest asked old new) (sym gives.1)
-    (unread content is_failed is_honest asked old new r f gave member order damaged store)
+    undamaged store = subst (IsUnread content is_failed is_honest asked old new) (sym gives.1)
+    (unread content is_failed is_honest asked old new r f gave member order damaged undamaged store)
 
 -- the fault that stands for one of writing
 pub unwritten : {T : Type 0} (old new : Option (List ℕ)) (was is : Bool)

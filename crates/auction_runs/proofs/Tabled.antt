@@ -1,14 +1,16 @@
 -- Why a band table was not set, or not told of.
-use Rattle.std.proofs.Common.{◌≡◌, ◌⊎◌, ◌↔◌, ◌∙◌, ℕ, List, Bool, true, false, Option, Result, Ok, Err, ap, inl, inr, refl, subst, sym}
+use Rattle.std.proofs.Common.{◌≡◌, ◌⊎◌, ◌↔◌, ◌≤◌, ◌∙◌, ℕ, List, length, Bool, true, false, Option, Result, Ok, Err, ap, inl, inr, refl, subst, sym}
 use Rattle.std.specs.Prelude.{IfErr, IfOk, IsErr, IsErrAnd, IsErrOf, IsOk, OnErr, OnOk}
 use Rattle.std.specs.Io.KnownBytes.{Keeps}
 use Rattle.steps.specs.Table.{Band}
 use Rattle.house.specs.Decided.{IfAccepted, IsDecided}
 use Rattle.house.specs.Decides.{Decides}
 use Rattle.house.specs.Own.{IsOf, command_of}
+use Rattle.house.specs.Taken.{CommandRowsFit}
 use Rattle.house_rows.specs.Asks.{ChangeFits, IsFree}
 use Rattle.house_rows.specs.Changed.{changed}
-use Rattle.house_rows.specs.Keeping.{AreSound, IsRead}
+use Rattle.house_rows.specs.Keeping.{IsRead}
+use Rattle.house_rows.specs.Limits.{most_items}
 use Rattle.house_rows.specs.Making.{ChangeRowsFit, IsApplied}
 use Rattle.house_rows.specs.Tables.{Tables}
 use Rattle.house_rows.specs.Taken.{IsUndamaged}
@@ -36,26 +38,26 @@ works r false x gave store = refl
 pub reported : {K A : Type 0} (content : K → Tables) (is_failed : K → Bool) (is_honest : K → Type 0)
     (moment : ℕ) (command : Command) (old new : K) (r : Result A KeepFault) (f : KeepFault)
     → r ≡ Err f → (IsErrOf r kept.Store ↔ (is_failed new ≡ true))
-    → (is_honest new → AreSound (content old) → IsUndamaged r)
+    → (is_honest new → length (content old).items ≤ most_items → IsUndamaged r)
     → (is_honest new → is_failed new ≡ false
     → IsOwnOrNone moment command (content old) (content new))
     → IsUndone content is_failed is_honest moment command old new (fault_of_keep f)
-reported content is_failed is_honest moment command old new r kept.Memory gave store sound own = record {
+reported content is_failed is_honest moment command old new r kept.Memory gave store undamaged own = record {
   cause = inl (kept.Memory, refl);
   store = (λ e. absurd cc, λ failed. let other = store.1 failed in absurd cc);
-  damaged = λ honest is e. absurd cc;
+  damaged = λ honest few e. absurd cc;
   same = own;
 }
-reported content is_failed is_honest moment command old new r kept.Store gave store sound own = record {
+reported content is_failed is_honest moment command old new r kept.Store gave store undamaged own = record {
   cause = inl (kept.Store, refl);
   store = (λ e. store.0 gave, λ failed. refl);
-  damaged = λ honest is e. absurd cc;
+  damaged = λ honest few e. absurd cc;
   same = own;
 }
-reported content is_failed is_honest moment command old new r kept.Damaged gave store sound own = record {
+reported content is_failed is_honest moment command old new r kept.Damaged gave store undamaged own = record {
   cause = inl (kept.Damaged, refl);
   store = (λ e. absurd cc, λ failed. let other = store.1 failed in absurd cc);
-  damaged = λ honest is e. sound honest is gave;
+  damaged = λ honest few e. undamaged honest few gave;
   same = own;
 }
 
@@ -65,15 +67,15 @@ pub handed_on : {K A T : Type 0} (content : K → Tables) (is_failed : K → Boo
     (f : KeepFault) (result : Result T TaskFault)
     → IsErr result × IsErrAnd result (λ report. report ≡ fault_of_keep f)
     → r ≡ Err f → (IsErrOf r kept.Store ↔ (is_failed new ≡ true))
-    → (is_honest new → AreSound (content old) → IsUndamaged r)
+    → (is_honest new → length (content old).items ≤ most_items → IsUndamaged r)
     → (is_honest new → is_failed new ≡ false
     → IsOwnOrNone moment command (content old) (content new))
     → IfErr result (IsUndone content is_failed is_honest moment command old new)
-handed_on content is_failed is_honest moment command old new r f (Ok x) gives gave store sound own =
+handed_on content is_failed is_honest moment command old new r f (Ok x) gives gave store undamaged own =
     absurd gives.1
-handed_on content is_failed is_honest moment command old new r f (Err report) gives gave store sound
+handed_on content is_failed is_honest moment command old new r f (Err report) gives gave store undamaged
     own = subst (IsUndone content is_failed is_honest moment command old new) (sym gives.1)
-    (reported content is_failed is_honest moment command old new r f gave store sound own)
+    (reported content is_failed is_honest moment command old new r f gave store undamaged own)
 
 -- the house refused its command
 pub refused : {K : Type 0} (k : keep.Ghosts K) (moment : ℕ) (command : Command) (old new : K)
@@ -92,7 +94,7 @@ refused k moment command old new decided refusal decides is =
         same = λ honest. decides.read.same honest going;
       });
       store = (λ e. absurd cc, λ failed. absurd cc);
-      damaged = λ honest sound e. absurd cc;
+      damaged = λ honest few e. absurd cc;
       same = λ honest well. inl (decides.read.same honest well);
     }
 
@@ -178,40 +180,55 @@ own_left k moment command old mid new decided made (Err f) decides is applied ho
           (k.content mid) t was after)
     ]
 
--- the rows that setting a table takes are those of sound tables, and its key is free
+-- what setting a table takes fits where there are no more items than there may be, and its key is free
 table_fits : (t : Tables) (made : Change) (bands : List Band) → command_of made ≡ SetBands bands
-    → AreSound t → ChangeRowsFit t made × IsFree t made
-table_fits t (change.Register moment name) bands is sound = absurd cc
-table_fits t (change.AddCategory moment name) bands is sound = absurd cc
-table_fits t (change.List moment item) bands is sound = absurd cc
-table_fits t (change.Bid moment item placed standing) bands is sound = absurd cc
-table_fits t (change.Buy moment item buyer price) bands is sound = absurd cc
-table_fits t (change.Close moment) bands is sound = absurd cc
-table_fits t (change.Settle moment item) bands is sound = absurd cc
-table_fits t (change.Watch member item) bands is sound = absurd cc
-table_fits t (change.Unwatch member item) bands is sound = absurd cc
-table_fits t (change.Ask item asker number text) bands is sound = absurd cc
-table_fits t (change.Answer moment item asker number text) bands is sound = absurd cc
-table_fits t (change.Feedback moment item from to rating text) bands is sound = absurd cc
-table_fits t (change.SetBands moment table) bands is sound = (sound.few_items, tt)
+    → length t.items ≤ most_items → ChangeRowsFit t made × IsFree t made
+table_fits t (change.Register moment name) bands is few = absurd cc
+table_fits t (change.AddCategory moment name) bands is few = absurd cc
+table_fits t (change.List moment item) bands is few = absurd cc
+table_fits t (change.Bid moment item placed standing) bands is few = absurd cc
+table_fits t (change.Buy moment item buyer price) bands is few = absurd cc
+table_fits t (change.Close moment) bands is few = absurd cc
+table_fits t (change.Settle moment item) bands is few = absurd cc
+table_fits t (change.Watch member item) bands is few = absurd cc
+table_fits t (change.Unwatch member item) bands is few = absurd cc
+table_fits t (change.Ask item asker number text) bands is few = absurd cc
+table_fits t (change.Answer moment item asker number text) bands is few = absurd cc
+table_fits t (change.Feedback moment item from to rating text) bands is few = absurd cc
+table_fits t (change.SetBands moment table) bands is few = (few, tt)
 
--- over sound tables a table that was decided on is made without the fault Damaged
-pub made_sound : {K : Type 0} (k : keep.Ghosts K) (moment caller : ℕ) (command : Command)
+-- deciding on a table takes no row
+takes_none : (t : Tables) (caller : ℕ) (command : Command) → IsTable command
+    → CommandRowsFit t caller command
+takes_none t caller command (bands, is) = subst (CommandRowsFit t caller) (sym is) tt
+
+-- so it is never damaged
+pub decided_undamaged : {K : Type 0} (k : keep.Ghosts K) (moment caller : ℕ) (command : Command)
+    (old new : K) (decided : Result (Result Change Refusal) KeepFault) → IsTable command
+    → Decides k old new decided moment caller command
+    → k.is_honest new → length (k.content old).items ≤ most_items → IsUndamaged decided
+decided_undamaged k moment caller command old new decided table decides honest few =
+    decides.damaged honest (takes_none (k.content old) caller command table)
+
+-- nor is a table that was decided on, where there are no more items than there may be
+pub made_undamaged : {K : Type 0} (k : keep.Ghosts K) (moment caller : ℕ) (command : Command)
     (old mid new : K) (decided : Result (Result Change Refusal) KeepFault) (made : Change)
     (r : Result (Unit {0}) KeepFault) → IsTable command
     → Decides k old mid decided moment caller command → decided ≡ Ok (Ok made)
     → IsApplied k.content k.is_failed k.is_honest k.may_leave mid new r made
-    → k.is_honest new → AreSound (k.content old) → IsUndamaged r
-made_sound k moment caller command old mid new decided made r table decides is applied honest sound =
+    → k.is_honest new → length (k.content old).items ≤ most_items → IsUndamaged r
+made_undamaged k moment caller command old mid new decided made r table decides is applied honest few =
     let was = applied.honest honest in
     let same : k.content mid ≡ k.content old =
     decides.read.same was (works decided (k.is_failed mid) (Ok made) is decides.faults.store) in
     let own = subst (λ v. IfAccepted v (IsOf moment caller command)) is (decides.own was) in
-    let fits = subst (λ t. ChangeFits t made) (sym same)
-    (subst (λ v. IfAccepted v (ChangeFits (k.content old))) is (decides.sound was sound)) in
-    let rows = table_fits (k.content mid) made table.0 (own.same_command ∙ table.1)
-    (subst AreSound (sym same) sound) in
-    applied.faults.damaged honest fits rows.0 rows.1
+    let rows = table_fits (k.content old) made table.0 (own.same_command ∙ table.1) few in
+    let fits : ChangeRowsFit (k.content old) made → ChangeFits (k.content old) made =
+    subst (λ v. IfAccepted v (λ x. ChangeRowsFit (k.content old) x → ChangeFits (k.content old) x)) is
+    (decides.fits was (takes_none (k.content old) caller command table)) in
+    applied.faults.damaged honest (subst (λ t. ChangeFits t made) (sym same) (fits rows.0))
+    (subst (λ t. ChangeRowsFit t made) (sym same) rows.0)
+    (subst (λ t. IsFree t made) (sym same) rows.1)
 
 -- why no table was set, by how the keep's end went
 pub untabled : {K L : Type 0} (content : K → Tables) (is_failed : K → Bool) (is_honest : K → Type 0)

@@ -4,6 +4,7 @@ use Rattle.std.specs.Prelude.{IfErr, is_some}
 use Rattle.house_rows.specs.Answers.{Reads}
 use Rattle.house_rows.specs.Keeping.{AreSound}
 use Rattle.house_rows.specs.Pages.{member_at}
+use Rattle.house_rows.specs.Taken.{MemberFitsAt}
 use Rattle.house_rows.specs.declared.fault.KeepFault.TheVariants as kept
 use Rattle.house_rows.specs.declared.keep.Keep as keep
 use Rattle.office.specs.Faults.{IsLookUpFault}
@@ -22,39 +23,44 @@ pub unfound : {K : Type 0} (k : keep.Ghosts K) (member : ℕ) (given last : K) (
     → is_some (member_at (k.content given).members member) ≡ false)
     → ((fault ≡ importing.Store) ↔ (k.is_failed last ≡ true))
     → (k.is_honest last → AreSound (k.content given) → ¬ (fault ≡ importing.Damaged))
+    → (k.is_honest last → MemberFitsAt member (k.content given) → ¬ (fault ≡ importing.Damaged))
     → IsLookUpFault fault → IsUnfound k member given last (fault_of_import fault)
-unfound k member given last importing.Member zone unknown store damaged look = record {
+unfound k member given last importing.Member zone unknown store damaged undamaged look = record {
   zone = zone;
   reported = inl refl;
   store = (λ e. absurd cc, λ failed. let other = store.1 failed in absurd cc);
   damaged = λ honest sound e. cc;
+  undamaged = λ honest fit e. cc;
   nobody = λ honest e. unknown honest refl;
 }
-unfound k member given last importing.Memory zone unknown store damaged look = record {
+unfound k member given last importing.Memory zone unknown store damaged undamaged look = record {
   zone = zone;
   reported = inr (kept.Memory, refl);
   store = (λ e. absurd cc, λ failed. let other = store.1 failed in absurd cc);
   damaged = λ honest sound e. cc;
+  undamaged = λ honest fit e. cc;
   nobody = λ honest e. absurd cc;
 }
-unfound k member given last importing.Store zone unknown store damaged look = record {
+unfound k member given last importing.Store zone unknown store damaged undamaged look = record {
   zone = zone;
   reported = inr (kept.Store, refl);
   store = (λ e. store.0 refl, λ failed. refl);
   damaged = λ honest sound e. cc;
+  undamaged = λ honest fit e. cc;
   nobody = λ honest e. absurd cc;
 }
-unfound k member given last importing.Damaged zone unknown store damaged look = record {
+unfound k member given last importing.Damaged zone unknown store damaged undamaged look = record {
   zone = zone;
   reported = inr (kept.Damaged, refl);
   store = (λ e. absurd cc, λ failed. let other = store.1 failed in absurd cc);
   damaged = λ honest sound e. damaged honest sound refl;
+  undamaged = λ honest fit e. undamaged honest fit refl;
   nobody = λ honest e. absurd cc;
 }
-unfound k member given last importing.Head zone unknown store damaged look = absurd look
-unfound k member given last importing.Csv zone unknown store damaged look = absurd look
-unfound k member given last importing.Read zone unknown store damaged look = absurd look
-unfound k member given last importing.Write zone unknown store damaged look = absurd look
+unfound k member given last importing.Head zone unknown store damaged undamaged look = absurd look
+unfound k member given last importing.Csv zone unknown store damaged undamaged look = absurd look
+unfound k member given last importing.Read zone unknown store damaged undamaged look = absurd look
+unfound k member given last importing.Write zone unknown store damaged undamaged look = absurd look
 
 -- over a keep that was asked for the member, and given back where no site was begun
 pub unstarted : {K R : Type 0} (k : keep.Ghosts K) (lots : Result R TaskFault) (member : ℕ)

@@ -6,6 +6,7 @@ use Rattle.house_rows.specs.Answers.{Reads}
 use Rattle.house_rows.specs.Keeping.{AreSound, IsRead}
 use Rattle.house_rows.specs.Pages.{member_at}
 use Rattle.house_rows.specs.Tables.{Tables}
+use Rattle.house_rows.specs.Taken.{MemberFitsAt}
 use Rattle.house_rows.specs.declared.keep.Keep as keep
 use Rattle.office.specs.Imports.{HasEnded, HasListed, HasOrdered, IsCounted}
 use Rattle.office.specs.Lines.{totals_line}
@@ -137,13 +138,15 @@ HasPrinted {K} k by text before after given = (last : K)
 -- ---- why a run of an import has a fault
 
 -- why a keep whose zone can be read finds no member: nobody has its number, or it reported a fault,
--- Store exactly where it has failed, and never Damaged over sound tables
+-- Store exactly where it has failed, and never Damaged over sound tables, nor where the member's row
+-- fits
 pub record IsUnfound {K : Type 0} (k : keep.Ghosts K) (member : ℕ) (given last : K)
     (fault : TaskFault) : Type 0 where
   pub zone : k.is_honest given → IsReadable (k.content given).settings.zone
   pub reported : (fault ≡ Member) ⊎ IsOfKeep fault
   pub store : (fault ≡ Store) ↔ (k.is_failed last ≡ true)
   pub damaged : k.is_honest last → AreSound (k.content given) → fault ≢ Damaged
+  pub undamaged : k.is_honest last → MemberFitsAt member (k.content given) → fault ≢ Damaged
   pub nobody : k.is_honest last → fault ≡ Member
       → is_some (member_at (k.content given).members member) ≡ false
 

@@ -6,6 +6,7 @@ use Rattle.house_rows.specs.Found.{sales_to}
 use Rattle.house_rows.specs.Keeping.{AreSound, IsRead}
 use Rattle.house_rows.specs.Pages.{member_at}
 use Rattle.house_rows.specs.Tables.{Tables}
+use Rattle.house_rows.specs.Taken.{MemberFitsAt, SalesFit}
 use Rattle.house_rows.specs.declared.keep.Keep as keep
 use Rattle.settle.specs.Statement.{Account, statement_of}
 use Rattle.settle.specs.Text.{statement_csv, statement_text}
@@ -38,13 +39,17 @@ IsUnfound content is_honest asked old new fault = IsOfKeep fault
     ⊎ ((fault ≡ Member) × (is_honest new
     → is_some (member_at (content old).members asked.member) ≡ false))
 
--- by one of these faults: Store exactly where the keep has failed, and over sound tables Damaged only
--- where the zone can't be read
+-- by one of these faults: Store exactly where the keep has failed, and Damaged only where the zone
+-- can't be read or tables aren't sound, of whose rows the member's own count and those of the items to
+-- whose sale it may be a party
 pub record IsUnread {K : Type 0} (content : K → Tables) (is_failed : K → Bool) (is_honest : K → Type 0)
     (asked : Inquiry) (old new : K) (fault : TaskFault) : Type 0 where
   pub cause : IsUnfound content is_honest asked old new fault
   pub store : (fault ≡ Store) ↔ (is_failed new ≡ true)
   pub damaged : is_honest new → AreSound (content old) → fault ≡ Damaged
+      → ¬ (IsReadable (content old).settings.zone)
+  pub undamaged : is_honest new → MemberFitsAt asked.member (content old)
+      → SalesFit asked.member (content old) → fault ≡ Damaged
       → ¬ (IsReadable (content old).settings.zone)
 
 -- why it was not written: memory was refused, or the output has failed

@@ -1,5 +1,5 @@
 -- A band table was set in a house, or why it wasn't.
-use Rattle.std.specs.Prelude.{◌≡◌, ◌≢◌, ◌↔◌, ◌⊎◌, ℕ, List, ◌∷◌, Bool, true, false, Option, Some, None}
+use Rattle.std.specs.Prelude.{◌≡◌, ◌≢◌, ◌↔◌, ◌⊎◌, ◌≤◌, ℕ, List, ◌∷◌, length, Bool, true, false, Option, Some, None}
 use Rattle.std.specs.Io.KnownBytes.{Appends, Keeps}
 use Rattle.house.specs.Own.{IsOf}
 use Rattle.house_rows.specs.Changed.{changed}
@@ -10,7 +10,7 @@ use Rattle.house_rows.specs.declared.refusal.Refusal.{Refusal}
 use Rattle.house_rows.specs.declared.settings.Settings.{Settings}
 use Rattle.house_rows.specs.Editions.{newest_in}
 use Rattle.house_rows.specs.History.{History}
-use Rattle.house_rows.specs.Keeping.{AreSound}
+use Rattle.house_rows.specs.Limits.{most_items}
 use Rattle.house_rows.specs.Runs.{entry}
 use Rattle.house_rows.specs.Tables.{Tables, band_tables, tables_of}
 use Rattle.house_rows.specs.Verdict.{IsHistory, verdict}
@@ -57,13 +57,13 @@ pub record IsRefused {K : Type 0} (content : K → Tables) (is_honest : K → Ty
   pub same : is_honest new → content new ≡ content old
 
 -- why a keep didn't do what the command asks for, or didn't tell the edition: it reported the fault
--- itself, Store exactly where it has failed, and Damaged only over tables that aren't sound; or the
--- command is refused. Where the keep has not failed nothing else was done to its tables
+-- itself, Store exactly where it has failed, and Damaged only over more items than there may be; or
+-- the command is refused. Where the keep has not failed nothing else was done to its tables
 pub record IsUndone {K : Type 0} (content : K → Tables) (is_failed : K → Bool) (is_honest : K → Type 0)
     (moment : ℕ) (command : Command) (old new : K) (fault : TaskFault) : Type 0 where
   pub cause : IsOfKeep fault ⊎ IsRefused content is_honest moment command old new fault
   pub store : (fault ≡ Store) ↔ (is_failed new ≡ true)
-  pub damaged : is_honest new → AreSound (content old) → fault ≢ Damaged
+  pub damaged : is_honest new → length (content old).items ≤ most_items → fault ≢ Damaged
   pub same : is_honest new → is_failed new ≡ false
       → IsOwnOrNone moment command (content old) (content new)
 

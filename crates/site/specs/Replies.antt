@@ -171,7 +171,6 @@ pub record IsBegun {S : Type 0} (result : Result S KeepFault) (is_honest : Type 
     (is_failed : Bool) (content : Tables) : Type 0 where
   pub store : IsErrOf result fault.Store ↔ (is_failed ≡ true)
   pub readable : is_honest → IsOk result → IsReadable content.settings.zone
-  pub damaged : is_honest → AreSound content → IsErrOf result fault.Damaged
-      → ¬ (IsReadable content.settings.zone)
+  pub damaged : is_honest → IsErrOf result fault.Damaged → ¬ (IsReadable content.settings.zone)
   pub unreadable : is_honest → is_failed ≡ false → ¬ (IsReadable content.settings.zone)
       → IsErrOf result fault.Damaged ⊎ IsErrOf result fault.Memory

@@ -9,6 +9,7 @@ ghost use Rattle.house_rows.specs.Keeping.{Faults};
 ghost use Rattle.house_rows.specs.Tables.{tables_of};
 ghost use Rattle.house_rows.specs.Taken.{IsUndamaged};
 ghost use Rattle.pages_record.specs.Record.{record_text};
+ghost use Rattle.pages_record.specs.Taken.{PublicRowsFit};
 ghost use Rattle.settle.specs.Zoned.{IsZoneOf};
 ghost use Rattle.steps.specs.Table.{IsBandTable};
 ghost use Rattle.site_request.specs.Asked.{IsAsked, asked_of};
@@ -199,13 +200,15 @@ impl<K: Keep + Drop> Site<K> {
         }
     }
 
-    /// The public record.
+    /// The public record. Damaged is answered only where a row that everybody may see doesn't fit.
     pub fn record(&mut self) -> Result<Vec<u8>, KeepFault>
         ensures shown { K.is_honest self.new.keep → (settings : TheSettings) (h : History)
             → K.content self.old.keep ≡ tables_of settings h
             → IfOk result (λ text. text.items ≡ record_text settings h) }
         ensures faults { Faults result (K.is_honest self.new.keep) (K.is_failed self.new.keep)
             (K.content self.old.keep) }
+        ensures undamaged { K.is_honest self.new.keep → PublicRowsFit (K.content self.old.keep)
+            → IsUndamaged result }
         ensures read { Reads K.Keep self.old.keep self.new.keep }
         ensures zone { zone_of self.new ≡ zone_of self.old }
     {

@@ -19,4 +19,4 @@ returns-in_err-check_member-clause-cause g c =
     rw (p.1, p.2) (inr (unfound g.K.Keep c.args.member c.args.keep.now c.check_member.new.keep _
     (λ honest. c.in_ok-check_zone.ensures.readable honest refl)
     (λ honest is. let same = is in e.unknown honest cc) (λ is. e.store.0 cc, λ failed. let is = e.store.1 failed in cc)
-    (λ honest sound is. e.damaged honest sound cc) e.fault))
+    (λ honest sound is. e.damaged honest sound cc) (λ honest fit is. e.undamaged honest fit cc) e.fault))
