@@ -17,6 +17,7 @@ use Rattle.house_rows.specs.Tables.{Tables, tables_of}
 use Rattle.house_rows.specs.Verdict.{IsHistory, is_house_command, verdict}
 use Rattle.house_rows.specs.Watches.{watches, with_watch}
 use Rattle.house_rows.proofs.Passed.{common_pass}
+use Rattle.site.specs.Histories.{AreBlank}
 
 -- a house without members accepts no member's command
 no_member : (settings : Settings) (h : History) (moment caller : ℕ) (command : Command)
@@ -138,11 +139,6 @@ bare_if settings h is alone no_members no_categories clock =
     bare_tables settings h (is_bare settings h is none) none (no_rows (categories h) no_categories)
     (no_rows (editions h) none_set) clock
 
--- what holds of tables where the first band table is the newest, and counts and clock are 0
-abbrev pub AreBlank : Tables → Type 0
-AreBlank t = (length t.editions + 1 ≡ 1) × (length t.members ≡ 0) × (length t.categories ≡ 0)
-    × (length t.items ≡ 0) × (t.clock ≡ 0)
-
 empty_blank : (settings : Settings) → AreBlank (tables_of settings [])
 unfolding tables_of
 empty_blank settings = (refl, refl, refl, refl, refl)
@@ -156,7 +152,16 @@ blank_reported settings h t blank is e report = (
   λ same. report.1 (rw same (empty_blank settings)),
 )
 
--- the newest edition, counts and clock say whether it is new, whichever call they are read by
+-- the newest edition, counts and clock say whether tables are blank, whichever call they are read by
+pub blank_by : (t mid : Tables) (newest : ℕ) (counts : Counts) (moment : ℕ) (blank : Bool)
+    → newest ≡ length t.editions + 1 → counts ≡ counts_of t → mid ≡ t → moment ≡ mid.clock
+    → (blank ≡ true) ↔ ((newest ≡ 1) × (counts.members ≡ 0) × (counts.categories ≡ 0) × (counts.items ≡ 0)
+    × (moment ≡ 0))
+    → (blank ≡ true) ↔ AreBlank t
+blank_by t mid newest counts moment blank alone counted same now report =
+    rw (now, same, counted, alone) at report
+
+-- and of a history whether it is new
 pub new_reported : (settings : Settings) (h : History) (t mid : Tables) (newest : ℕ) (counts : Counts) (moment : ℕ)
     (blank : Bool) → IsHistory settings h → t ≡ tables_of settings h
     → newest ≡ length t.editions + 1 → counts ≡ counts_of t → mid ≡ t → moment ≡ mid.clock
@@ -164,5 +169,5 @@ pub new_reported : (settings : Settings) (h : History) (t mid : Tables) (newest 
     × (moment ≡ 0))
     → (blank ≡ true) ↔ (t ≡ tables_of settings [])
 new_reported settings h t mid newest counts moment blank is e alone counted same now report =
-    let report' : (blank ≡ true) ↔ AreBlank t = rw (now, same, counted, alone) at report in
-    blank_reported settings h t blank is e report'
+    blank_reported settings h t blank is e
+    (blank_by t mid newest counts moment blank alone counted same now report)

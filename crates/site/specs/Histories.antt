@@ -1,14 +1,20 @@
 -- What the site's clauses say of a step and of a run, by the record of the keep's ghosts.
-use Rattle.std.specs.Prelude.{ℕ, List}
+use Rattle.std.specs.Prelude.{◌≡◌, ◌+◌, ℕ, List, length}
 use Rattle.std.specs.List.{AllZip}
 use Rattle.house_rows.specs.Answers.{OverHistory}
 use Rattle.house_rows.specs.History.{History}
+use Rattle.house_rows.specs.Tables.{Tables}
 use Rattle.house_rows.specs.declared.keep.Keep.{Ghosts}
 use Rattle.house_rows.specs.declared.settings.Settings.{Settings}
 use Rattle.settle.specs.declared.zone.Zone.{Zone}
 use Rattle.site_request.specs.Asked.{IsAsked}
 use Rattle.site_request.specs.declared.asked.Asked.{Asked}
 use Rattle.site.specs.Replies.{IsStep}
+
+-- the first band table is the newest of the tables, and counts and clock are 0
+abbrev pub AreBlank : Tables → Type 0
+AreBlank t = (length t.editions + 1 ≡ 1) × (length t.members ≡ 0) × (length t.categories ≡ 0)
+    × (length t.items ≡ 0) × (t.clock ≡ 0)
 
 -- one message asks, and this is the reply
 abbrev pub Steps : {K : Type 0} → Ghosts K → Zone → Asked → List ℕ → K → K → Type 0

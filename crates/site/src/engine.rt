@@ -8,7 +8,8 @@ ghost use Rattle.house_rows.specs.History.{History};
 ghost use Rattle.house_rows.specs.Keeping.{Faults};
 ghost use Rattle.house_rows.specs.Tables.{tables_of};
 ghost use Rattle.house_rows.specs.Taken.{IsUndamaged};
-ghost use Rattle.pages_record.specs.Record.{record_text};
+ghost use Rattle.pages_json.specs.Words.{text_of};
+ghost use Rattle.pages_record.specs.Record.{record_by, record_text};
 ghost use Rattle.pages_record.specs.Taken.{PublicRowsFit};
 ghost use Rattle.settle.specs.Zoned.{IsZoneOf};
 ghost use Rattle.steps.specs.Table.{IsBandTable};
@@ -18,7 +19,7 @@ ghost use Rattle.site_replies.specs.Texts.{fault_text};
 ghost use Rattle.wire.specs.Frame.{IsFrame};
 ghost use Rattle.wire.specs.declared.fault.WireFault.{WireFault};
 ghost use Rattle.site.specs.Replies.{IsAppended, IsBegun, IsDown, IsReadable, IsReported, broken_text, without_keep, zone_of};
-ghost use Rattle.site.specs.Histories.{Steps};
+ghost use Rattle.site.specs.Histories.{AreBlank, Steps};
 ghost use Rattle.site.specs.Lent.{LendsKeep};
 
 use house_rows::{Counts, Keep, KeepFault, Settings};
@@ -202,6 +203,9 @@ impl<K: Keep + Drop> Site<K> {
 
     /// The public record. Damaged is answered only where a row that everybody may see doesn't fit.
     pub fn record(&mut self) -> Result<Vec<u8>, KeepFault>
+        // Over any tables, of a history or not.
+        ensures tables { K.is_honest self.new.keep → IfOk result (λ text.
+            text.items ≡ text_of (record_by (K.content self.old.keep))) }
         ensures shown { K.is_honest self.new.keep → (settings : TheSettings) (h : History)
             → K.content self.old.keep ≡ tables_of settings h
             → IfOk result (λ text. text.items ≡ record_text settings h) }
@@ -218,10 +222,14 @@ impl<K: Keep + Drop> Site<K> {
     }
 
     /// Whether no command was accepted yet, but closes of an empty house at moment 0, which leave
-    /// no trace. Damaged is never answered, whatever the rows are.
+    /// no trace: there is no later band table, no member, no category and no item, and the clock is
+    /// at 0. Damaged is never answered, whatever the rows are.
     pub fn is_new(&mut self) -> Result<bool, KeepFault>
         ensures report { OverHistory K.Keep self.old.keep self.new.keep (λ settings h. IfOk result
             (λ new. (new ≡ true) ↔ (K.content self.old.keep ≡ tables_of settings []))) }
+        // Over any tables, of a history or not.
+        ensures tables { K.is_honest self.new.keep → IfOk result (λ new.
+            (new ≡ true) ↔ AreBlank (K.content self.old.keep)) }
         ensures faults { Faults result (K.is_honest self.new.keep) (K.is_failed self.new.keep)
             (K.content self.old.keep) }
         ensures undamaged { K.is_honest self.new.keep → IsUndamaged result }
