@@ -1,7 +1,7 @@
 -- What an audit's run reports.
 use Rattle.std.specs.Prelude.{◌≡◌, ◌≢◌, ◌⊎◌, ℕ, List, [], length, Bool, true, false, Option, IfSome, Result, Ok, Err}
 use Rattle.std.specs.List.{AllZip}
-use Rattle.std.specs.Io.KnownBytes.{Appends}
+use Rattle.std.specs.Io.KnownBytes.{Appends, Keeps}
 use Rattle.house_laws.specs.Alike.{AreAlike}
 use Rattle.house_rows.specs.declared.settings.Settings.{Settings}
 use Rattle.house_rows.specs.History.{History}
@@ -120,8 +120,9 @@ pub record HasReported {K L R : Type 0} (houses : Houses) (content : K → Table
       verdict
   pub report : IsReported before after verdict equal
 
--- why nothing, or not all, was reported: the runs are not compared, or the output failed
+-- why nothing, or not all, was reported: the output failed, or the runs are not compared and nothing
+-- was written
 abbrev pub IsUnreported : {K L R : Type 0} → (L → Option (List ℕ)) → (R → Option (List ℕ))
-    → Run K L → Run K R → TaskFault → Type 0
-IsUnreported left_bytes right_bytes left right fault =
-    (fault ≡ Write) ⊎ IsUncompared left_bytes right_bytes left right fault
+    → Run K L → Run K R → Option (List ℕ) → Option (List ℕ) → TaskFault → Type 0
+IsUnreported left_bytes right_bytes left right before after fault = (fault ≡ Write)
+    ⊎ (IsUncompared left_bytes right_bytes left right fault × Keeps before after)

@@ -180,7 +180,7 @@ fn write_verdict<W: Write>(output: &mut W, verdict: &Verdict) -> Result<bool, Ta
 
 /// Compares two runs of messages over two houses as a member sees them, and reports what was found.
 /// Ok is whether they are equal. What is wrong on the left is reported before what is wrong on the
-/// right.
+/// right. Where nothing was compared nothing is written.
 pub fn report_comparison<L: Source + Drop, R: Source + Drop, W: Write, K: Keep + Drop>(
     alloc: Global,
     houses: Houses,
@@ -192,7 +192,8 @@ pub fn report_comparison<L: Source + Drop, R: Source + Drop, W: Write, K: Keep +
     ensures report { IfOk result
         (HasReported houses K.content K.is_failed K.is_honest L.left R.left caller left right
         (W.contents output.old) (W.contents output.new)) }
-    ensures fault { IfErr result (IsUnreported L.left R.left left right) }
+    ensures fault { IfErr result (IsUnreported L.left R.left left right
+        (W.contents output.old) (W.contents output.new)) }
 {
     let verdict = compare(alloc, houses, left, right, caller)?;
     write_verdict(output, &verdict)
@@ -231,7 +232,8 @@ pub fn audit_run<L: Source + Drop, R: Source + Drop, W: Write, E: Sink, K: Keep 
     ensures told { TellsFinding E.Sink
         (HasReported houses K.content K.is_failed K.is_honest L.left R.left caller left right
         (W.contents output.old) (W.contents output.new))
-        (IsUnreported L.left R.left left right) errors.old errors.new result }
+        (IsUnreported L.left R.left left right (W.contents output.old) (W.contents output.new))
+        errors.old errors.new result }
     ensures within { result ≤ 1 }
 {
     status(
