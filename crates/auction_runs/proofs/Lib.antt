@@ -1,7 +1,9 @@
 pub mod Accounts
 pub mod Begun
 pub mod Compared
+pub mod CutOff
 pub mod FaultLines
+pub mod NoRecord
 pub mod Outcomes
 pub mod Replays
 pub mod Rows
@@ -9,4 +11,5 @@ pub mod Served
 pub mod Stated
 pub mod Tabled
 pub mod Unready
+pub mod Waits
 pub mod Zones

@@ -22,6 +22,18 @@ pub on_ok_then : {T E P Q : Type 0} (r : Result T E) → OnOk r P → (P → Q) 
 on_ok_then (Ok x) p f = f p
 on_ok_then (Err e) p f = tt
 
+-- what follows of a fault
+pub if_err_then : {T E : Type 0} {P Q : E → Type 0} (r : Result T E) → IfErr r P
+    → ((e : E) → P e → Q e) → IfErr r Q
+if_err_then (Ok x) p f = tt
+if_err_then (Err e) p f = f e p
+
+-- both facts of a fault
+pub both_faults : {T E : Type 0} (P Q : E → Type 0) (r : Result T E) → IfErr r P → IfErr r Q
+    → IfErr r (λ e. P e × Q e)
+both_faults P Q (Ok x) p q = tt
+both_faults P Q (Err e) p q = (p, q)
+
 -- what is so whatever a result is
 pub always : {T E P : Type 0} (r : Result T E) → P → OnOk r P
 always (Ok x) p = p

@@ -5,7 +5,8 @@ use Rattle.settle.specs.declared.zone.Zone.{Zone}
 use Rattle.site.specs.Replies.{IsStep}
 use Rattle.site_serve.specs.Serving.{HasServed}
 use Rattle.site_serve.specs.declared.server.Served.{Served}
-use Rattle.auction_runs.specs.Setup.{IsTaken}
+use Rattle.auction_runs.specs.Setup.{IsTaken, IsUntaken}
+use Rattle.auction_runs.specs.declared.fault.TaskFault.{TaskFault}
 
 -- a command was taken by the zone that a site began with
 pub taken_in_zone : {K : Type 0} (content : K → Tables) (is_failed : K → Bool)
@@ -15,6 +16,16 @@ pub taken_in_zone : {K : Type 0} (content : K → Tables) (is_failed : K → Boo
     → IsTaken (IsStep content is_failed is_honest may_leave first) old text new
 taken_in_zone content is_failed is_honest may_leave now first old text new same taken =
     subst (λ z. IsTaken (IsStep content is_failed is_honest may_leave z) old text new) same taken
+
+-- or was not
+pub untaken_in_zone : {K : Type 0} (content : K → Tables) (is_failed : K → Bool)
+    (is_honest : K → Type 0) (may_leave : K → Tables → Type 0) (now first : Zone)
+    (old : K) (text : List ℕ) (fault : TaskFault) (new : K) → now ≡ first
+    → IsUntaken (IsStep content is_failed is_honest may_leave now) old text fault new
+    → IsUntaken (IsStep content is_failed is_honest may_leave first) old text fault new
+untaken_in_zone content is_failed is_honest may_leave now first old text fault new same untaken =
+    subst (λ z. IsUntaken (IsStep content is_failed is_honest may_leave z) old text fault new) same
+    untaken
 
 -- a stream was served by the zone that a site began with
 pub served_in_zone : {K : Type 0} (content : K → Tables) (is_failed : K → Bool)

@@ -81,6 +81,11 @@ IsOfReplay input_failed output_failed fault = IsOfKeep fault
     ⊎ ((fault ≡ FailedInput) × (input_failed ≡ true))
     ⊎ ((fault ≡ FailedOutput) × (output_failed ≡ true))
 
+-- and where the input failed, this was so of the output
+abbrev pub IsOfReplayed : Bool → Bool → Type 0 → TaskFault → Type 0
+IsOfReplayed input_failed output_failed Flushed fault =
+    IsOfReplay input_failed output_failed fault × (fault ≡ FailedInput → Flushed)
+
 -- what stands for a fault of an import
 abbrev pub fault_of_import : ImportFault → TaskFault
 fault_of_import importing.Memory = report.Memory

@@ -1,5 +1,5 @@
 -- What a replay writes. Start here.
-use Rattle.std.specs.Prelude.{◌≡◌, ◌⊎◌, ℕ, List, [], ◌∷◌, ◌++◌, Bool, true, false, Option, IfSome}
+use Rattle.std.specs.Prelude.{◌≡◌, ◌≢◌, ◌↔◌, ◌⊎◌, ℕ, List, [], ◌∷◌, ◌++◌, Bool, true, false, Option, IfSome}
 use Rattle.std.specs.Io.KnownBytes.{Appends, Keeps}
 use Rattle.device.specs.Given.{AppendsBeginning}
 use Rattle.house_rows.specs.declared.keep.Keep as keep
@@ -8,12 +8,18 @@ use Rattle.house_rows.specs.History.{History}
 use Rattle.house_rows.specs.Keeping.{IsRead}
 use Rattle.house_rows.specs.Tables.{Tables, tables_of}
 use Rattle.pages_record.specs.Record.{record_text}
+use Rattle.house_rows.specs.Taken.{PublicRowsFit}
 use Rattle.settle.specs.Zoned.{IsZoneOf}
 use Rattle.settle.specs.declared.zone.Zone.{Zone}
 use Rattle.site.specs.Replies.{IsStep}
 use Rattle.site_serve.specs.Serving.{HasRead, HasServed, HasWritten}
+use Rattle.site_serve.specs.declared.server.ServeFault.{ServeFault}
 use Rattle.site_serve.specs.declared.server.Served.{Served}
-use Rattle.auction_runs.specs.Setup.{IsSetUp}
+use Rattle.auction_runs.specs.Begun.{IsUnbegun}
+use Rattle.auction_runs.specs.Faults.{IsOfKeep, fault_of_serving}
+use Rattle.auction_runs.specs.Setup.{IsNotSetUp, IsSetUp}
+use Rattle.auction_runs.specs.declared.fault.TaskFault.{TaskFault}
+use Rattle.auction_runs.specs.declared.fault.TaskFault.TheVariants as report
 use Rattle.auction_words.specs.declared.command_line.Replay.{Replay}
 
 -- a public record was written, and a newline: over a history whose tables the keep had, that of the
@@ -110,3 +116,41 @@ abbrev pub IsReplayedPart : {K : Type 0} → keep.Ghosts K → Replay → Option
     → Option (List ℕ) → Option (List ℕ) → K → Type 0
 IsReplayedPart k asked left now before after given =
     Keeps before after ⊎ HasReplayedPart k asked left now before after given
+
+-- ---- which fault a replay has
+
+-- why a keep that was asked for its record gave none: it reported the fault, Store exactly where it
+-- has failed, and never Damaged where the rows fit that everybody may see
+pub record HasNoRecord {K : Type 0} (k : keep.Ghosts K) (old new : K) (fault : TaskFault) : Type 0
+  where
+    pub reported : IsOfKeep fault
+    pub store : (fault ≡ report.Store) ↔ (k.is_failed new ≡ true)
+    pub damaged : k.is_honest new → PublicRowsFit (k.content old) → fault ≢ report.Damaged
+    pub read : IsRead k.content k.is_failed k.is_honest k.may_leave old new
+
+-- why the record that was asked for wasn't written: the output failed, or there is none
+abbrev pub IsNotRecorded : {K : Type 0} → keep.Ghosts K → Bool → K → K → TaskFault → Type 0
+IsNotRecorded k true old new fault = (fault ≡ report.Write) ⊎ HasNoRecord k old new fault
+IsNotRecorded k false old new fault = ⊥
+
+-- why a stream wasn't answered over a keep to its end: the keep was not set up, serving had a fault,
+-- or the record wasn't written
+abbrev pub IsReplyFault : {K : Type 0} → keep.Ghosts K → Replay → Zone → K → K → TaskFault → Type 0
+IsReplyFault {K} k asked zone old new fault =
+    IsNotSetUp (IsStep k.content k.is_failed k.is_honest k.may_leave zone) asked.preset old fault new
+    ⊎ ((serving : ServeFault) × (fault ≡ fault_of_serving serving))
+    ⊎ ((mid : K) × IsNotRecorded k asked.record mid new fault)
+
+-- so it was over a keep that was given
+pub record HasReplyFault {K : Type 0} (k : keep.Ghosts K) (asked : Replay) (given : K)
+    (fault : TaskFault) : Type 0 where
+  pub zone : Zone
+  pub kept_zone : k.is_honest given → IsZoneOf (k.content given).settings.zone zone
+  pub last : K
+  pub cause : IsReplyFault k asked zone given last fault
+
+-- or no site was begun over it
+abbrev pub IsReplayFault : {K : Type 0} → keep.Ghosts K → Replay → K → TaskFault → Type 0
+IsReplayFault k asked given fault =
+    IsUnbegun (k.is_honest given) (k.is_failed given) (k.content given) fault
+    ⊎ HasReplyFault k asked given fault

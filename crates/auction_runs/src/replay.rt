@@ -1,11 +1,12 @@
 //! `replay`: the replies to the messages of an input, over a new house.
 ghost use Rattle.auction_runs.specs.Lines.{IsReported};
-ghost use Rattle.std.specs.Prelude.{◌≡◌, ◌≤◌, ◌++◌, ◌∷◌, [], false, true, IfErr, IfSome, IsErr, OnErr, OnOk};
+ghost use Rattle.std.specs.Prelude.{◌≡◌, ◌≤◌, ◌++◌, ◌∷◌, [], false, true, Err, IfErr, IfSome, IsErr, OnErr, OnOk};
 ghost use Rattle.std.specs.Io.KnownBytes.{Appends};
 ghost use Rattle.device.specs.Given.{AppendsBeginning};
-ghost use Rattle.auction_runs.specs.Faults.{IsOfKeep, IsOfReplay};
-ghost use Rattle.auction_runs.specs.Replayed.{HasRecorded, HasReplayed, IsRecorded, IsRecordedPart, IsReplayedPart};
-ghost use Rattle.auction_runs.specs.Setup.{IsSetUp};
+ghost use Rattle.auction_runs.specs.Faults.{IsOfKeep, IsOfReplay, IsOfReplayed};
+ghost use Rattle.auction_runs.specs.Replayed.{HasRecorded, HasReplayed, IsNotRecorded, IsRecorded, IsRecordedPart};
+ghost use Rattle.auction_runs.specs.Replayed.{IsReplayFault, IsReplayedPart, IsReplyFault};
+ghost use Rattle.auction_runs.specs.Setup.{IsNotSetUp, IsSetUp};
 ghost use Rattle.settle.specs.Zoned.{IsZoneOf};
 ghost use Rattle.site.specs.Replies.{zone_of};
 ghost use Rattle.site.specs.Histories.{Steps};
@@ -27,6 +28,8 @@ fn prepare<K: Keep + Drop>(site: &mut Site<K>, asked: Replay) -> Result<(), Task
         (IsSetUp (Steps K.Keep (zone_of site.old))
         asked.preset (keep_of site.old) (keep_of site.new)) }
     ensures fault { IfErr result IsOfKeep }
+    ensures why { IfErr result (λ fault. IsNotSetUp (Steps K.Keep (zone_of site.old))
+        asked.preset (keep_of site.old) fault (keep_of site.new)) }
     ensures zone { zone_of site.new ≡ zone_of site.old }
 {
     if asked.preset { set_up(site) } else { Ok(()) }
@@ -54,6 +57,8 @@ fn append_record<W: Sink, K: Keep + Drop>(sink: &mut W, site: &mut Site<K>) -> R
         (W.taken sink.old) (W.taken sink.new) (keep_of site.old)) }
     ensures handed_on { OnOk result (W.handed_on sink.new ≡ W.taken sink.new) }
     ensures fault { IfErr result (IsOfReplay false (W.has_failed sink.new)) }
+    ensures cause { IfErr result
+        (IsNotRecorded K.Keep true (keep_of site.old) (keep_of site.new)) }
 {
     let record = site.record()?;
     match give_record(sink, record.as_slice()) {
@@ -75,6 +80,8 @@ fn finish<W: Sink, K: Keep + Drop>(
         (W.taken sink.old) (W.taken sink.new) (keep_of site.old)) }
     ensures handed_on { OnOk result (IsFlushed W.handed_on W.taken sink.old sink.new) }
     ensures fault { IfErr result (IsOfReplay false (W.has_failed sink.new)) }
+    ensures cause { IfErr result
+        (IsNotRecorded K.Keep asked.record (keep_of site.old) (keep_of site.new)) }
 {
     if asked.record {
         append_record(sink, site)
@@ -103,6 +110,10 @@ fn reply_over<R: Source, W: Sink, K: Keep + Drop>(
     ensures handed_on { OnOk result (IsFlushed W.handed_on W.taken sink.old sink.new) }
     ensures fault { IfErr result
         (IsOfReplay (R.has_failed source.new) (W.has_failed sink.new)) }
+    ensures waits { result ≡ Err TaskFault.Read
+        → IsFlushed W.handed_on W.taken sink.old sink.new }
+    ensures cause { IfErr result (IsReplyFault K.Keep asked (zone_of site.old)
+        (keep_of site.old) (keep_of site.new)) }
 {
     prepare(site, asked)?;
     serve(alloc, source, sink, site, u64::MAX)?;
@@ -125,6 +136,9 @@ fn reply_all<R: Source, W: Sink, K: Keep + Drop>(
     ensures handed_on { OnOk result (IsFlushed W.handed_on W.taken sink.old sink.new) }
     ensures fault { IfErr result
         (IsOfReplay (R.has_failed source.new) (W.has_failed sink.new)) }
+    ensures waits { result ≡ Err TaskFault.Read
+        → IsFlushed W.handed_on W.taken sink.old sink.new }
+    ensures cause { IfErr result (IsReplayFault K.Keep asked keep) }
 {
     let mut site = site_over(alloc, keep)?;
     reply_over(alloc, source, sink, &mut site, asked)
@@ -132,7 +146,8 @@ fn reply_all<R: Source, W: Sink, K: Keep + Drop>(
 
 /// Answers all messages of a source over a new house, and gives the exit status. A fault is written
 /// in its line on `errors`. However the stream ends, the record that was asked for follows the last
-/// reply; where a device fails there is none. What was written before a fault is a beginning of it.
+/// reply; where a device fails there is none. What was written before a fault is a beginning of it,
+/// and where the source failed the sink has handed it on.
 pub fn replay_run<R: Source, W: Sink, K: Keep + Drop, E: Sink>(
     alloc: Global,
     source: &mut R,
@@ -148,7 +163,9 @@ pub fn replay_run<R: Source, W: Sink, K: Keep + Drop, E: Sink>(
         (R.left source.new) (W.taken sink.old) (W.taken sink.new) keep }
     ensures handed_on { result ≡ 0 → IsFlushed W.handed_on W.taken sink.old sink.new }
     ensures reported { IsReported E.Sink
-        (IsOfReplay (R.has_failed source.new) (W.has_failed sink.new))
+        (λ fault. IsOfReplayed (R.has_failed source.new) (W.has_failed sink.new)
+        (IsFlushed W.handed_on W.taken sink.old sink.new) fault
+        × IsReplayFault K.Keep asked keep fault)
         errors.old errors.new result }
     ensures within { result ≤ 1 }
 {

@@ -1,15 +1,15 @@
 //! The house that `--preset` begins with.
 ghost use Rattle.std.specs.Prelude.{◌≡◌, true, IfErr, OnOk};
 ghost use Rattle.auction_runs.specs.Faults.{IsOfKeep};
-ghost use Rattle.auction_runs.specs.Setup.{IsCreated, IsSetUp, IsTaken};
+ghost use Rattle.auction_runs.specs.Setup.{IsCreated, IsNotSetUp, IsSetUp, IsTaken, IsUntaken, Refuses};
 ghost use Rattle.site.specs.Replies.{zone_of};
 ghost use Rattle.site.specs.Histories.{Steps};
 ghost use Rattle.site_serve.specs.Serving.{keep_of};
 
 use crate::fault::TaskFault;
-use house_rows::Keep;
+use house_rows::{Keep, KeepFault};
 use site::Site;
-use wire::{failed_store, no_memory};
+use site_replies::fault_text;
 
 pub(crate) const ANA: &str =
     "POST /members HTTP/1.1\r\nhost: h\r\nx-member: 0\r\nx-moment: 1000\r\n\
@@ -36,12 +36,13 @@ pub(crate) const ATLAS: &str =
 fn check_reply(reply: &[u8]) -> Result<(), TaskFault>
     ensures taken { OnOk result (IsCreated reply.now) }
     ensures fault { IfErr result IsOfKeep }
+    ensures why { IfErr result (Refuses reply.now) }
 {
     if reply.starts_with(b"HTTP/1.1 201 ") {
         Ok(())
-    } else if reply == no_memory(false) {
+    } else if reply == fault_text(KeepFault::Memory, false) {
         Err(TaskFault::Memory)
-    } else if reply == failed_store(false) {
+    } else if reply == fault_text(KeepFault::Store, false) {
         Err(TaskFault::Store)
     } else {
         Err(TaskFault::Damaged)
@@ -54,6 +55,8 @@ fn send<K: Keep + Drop>(site: &mut Site<K>, message: &str) -> Result<(), TaskFau
         (IsTaken (Steps K.Keep (zone_of site.old))
         (keep_of site.old) message.now (keep_of site.new)) }
     ensures fault { IfErr result IsOfKeep }
+    ensures why { IfErr result (λ fault. IsUntaken (Steps K.Keep (zone_of site.old))
+        (keep_of site.old) message.now fault (keep_of site.new)) }
     ensures zone { zone_of site.new ≡ zone_of site.old }
 {
     check_reply(&site.reply(message.as_bytes()))
@@ -61,12 +64,16 @@ fn send<K: Keep + Drop>(site: &mut Site<K>, message: &str) -> Result<(), TaskFau
 
 /// Sets a new house up: three members, a category and an item of the first member.
 ///
-/// Damaged is answered where the house isn't new.
+/// Memory and Store are answered where the reply to one of its messages is the text of that fault,
+/// and Damaged where it says otherwise that the message was not taken, as where the house isn't new.
+/// The messages after it are not sent.
 pub fn set_up<K: Keep + Drop>(site: &mut Site<K>) -> Result<(), TaskFault>
     ensures taken { OnOk result
         (IsSetUp (Steps K.Keep (zone_of site.old))
         true (keep_of site.old) (keep_of site.new)) }
     ensures fault { IfErr result IsOfKeep }
+    ensures why { IfErr result (λ fault. IsNotSetUp (Steps K.Keep (zone_of site.old))
+        true (keep_of site.old) fault (keep_of site.new)) }
     ensures zone { zone_of site.new ≡ zone_of site.old }
 {
     send(site, ANA)?;

@@ -7,10 +7,9 @@ ghost use Rattle.house_rows.specs.declared.settings.Settings.{Settings as TheSet
 ghost use Rattle.house_rows.specs.History.{History};
 ghost use Rattle.house_rows.specs.Keeping.{Faults};
 ghost use Rattle.house_rows.specs.Tables.{tables_of};
-ghost use Rattle.house_rows.specs.Taken.{IsUndamaged};
+ghost use Rattle.house_rows.specs.Taken.{IsUndamaged, PublicRowsFit};
 ghost use Rattle.pages_json.specs.Words.{text_of};
 ghost use Rattle.pages_record.specs.Record.{record_by, record_text};
-ghost use Rattle.pages_record.specs.Taken.{PublicRowsFit};
 ghost use Rattle.settle.specs.Zoned.{IsZoneOf};
 ghost use Rattle.steps.specs.Table.{IsBandTable};
 ghost use Rattle.site_request.specs.Asked.{IsAsked, asked_of};

@@ -1,5 +1,8 @@
-use Rattle.std.proofs.Common.{rules}
+use Rattle.std.proofs.Common.{inl, inr, rules}
+use Rattle.std.proofs.lemmas.Result.{err_from_is_err_and}
+use Rattle.auction_runs.proofs.Outcomes.{if_err_then}
 use Rattle.auction_runs.proofs.Replays.{of_record, of_serve, on_err}
+use Rattle.auction_runs.proofs.Waits.{never_after, never_read, read_by_serving}
 use Rattle.site.specs.Replies.{zone_of}
 use Rattle.site_serve.specs.Serving.{keep_of}
 use Rattle.auction_runs.proofs.replay.reply_over.Goals as goal
@@ -19,3 +22,31 @@ returns-clause-part g c = λ kept_zone.
     _ _ _ (keep_of c.args.site.now) (keep_of c.prepare.new.site) (keep_of c.serve.new.site)
     c.in_ok-prepare.ensures.zone kept_zone c.in_ok-prepare.ensures.set_up _ _ c.in_ok-serve.field-0
     c.finish.result c.in_ok-serve.ensures.served c.finish.ensures.part
+
+pub returns-in_err-prepare-clause-waits : goal.returns-in_err-prepare-clause-waits
+returns-in_err-prepare-clause-waits g c = never_read c.in_err-prepare.field-0.0 c.from_residual.result
+    c.from_residual.ensures c.in_err-prepare.ensures.fault
+
+pub returns-in_err-serve-clause-waits : goal.returns-in_err-serve-clause-waits
+returns-in_err-serve-clause-waits g c = read_by_serving c.serve.result c.in_err-serve.field-0.0
+    c.from_residual-in_err-serve.result c.from_residual-in_err-serve.ensures c.in_err-serve.was
+    c.serve.ensures.waits
+
+pub returns-clause-waits : goal.returns-clause-waits
+returns-clause-waits g c =
+    never_after (g.W.Sink.has_failed c.finish.new.sink) c.finish.result c.finish.ensures.fault
+
+pub returns-in_err-prepare-clause-cause : goal.returns-in_err-prepare-clause-cause
+returns-in_err-prepare-clause-cause g c =
+    let p = err_from_is_err_and c.from_residual.result c.from_residual.ensures.1 in
+    rw (p.1, p.2) (inl c.in_err-prepare.ensures.why)
+
+pub returns-in_err-serve-clause-cause : goal.returns-in_err-serve-clause-cause
+returns-in_err-serve-clause-cause g c =
+    let p = err_from_is_err_and c.from_residual-in_err-serve.result
+    c.from_residual-in_err-serve.ensures.1 in
+    rw p.1 (inr (inl (c.in_err-serve.field-0.0, p.2)))
+
+pub returns-clause-cause : goal.returns-clause-cause
+returns-clause-cause g c = if_err_then c.finish.result c.finish.ensures.cause
+    (λ fault why. inr (inr (keep_of c.serve.new.site, why)))
