@@ -149,10 +149,11 @@ fn do_task<F: KeepInFile, M: KeepInMemory, C: Listen>(
     task: &Task<'_>,
     first: F::First,
 ) -> (u8, Remains<F::Rest, F::Left>)
-    ensures done { result.0 ≡ 0 → IsDone F.Keep F.is_ended F.is_opened F.is_new F.is_upgraded
+    ensures done { result.0 ≡ 0 → IsDone F.Keep C.is_at F.is_ended F.is_opened F.is_new
+        F.is_upgraded
         (λ zone. Takes F.Keep C.Input.Source C.Output.Sink C.accepts C.ends zone most_messages)
         task.now result.1 }
-    ensures left { IsLeftOf F.Keep F.is_ended F.is_left F.is_opened F.is_new
+    ensures left { IsLeftOf F.Keep C.is_at F.is_ended F.is_left F.is_opened F.is_new
         F.is_upgraded F.is_held F.is_made F.is_grown
         (λ zone. Takes F.Keep C.Input.Source C.Output.Sink C.accepts C.ends zone most_messages)
         task.now result.1 }

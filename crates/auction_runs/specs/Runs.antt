@@ -21,28 +21,31 @@ use Rattle.site_connections.specs.Turns.{HasTakenSome, TakesEach, TakesWell}
 
 -- ---- serving
 
--- so many connections were taken in turn over a keep, by its zone; it failed in none of them, and nothing
--- else was done to it
-pub record HasAnswered {C K : Type 0} (k : keep.Ghosts K) (Takes : Zone → C × K → C × K → Type 0)
-    (count : ℕ) (given last : K) : Type 0 where
-  pub zone : Zone
-  pub kept_zone : k.is_honest given → IsZoneOf (k.content given).settings.zone zone
-  pub came : C
-  pub gone : C
-  pub each : TakesEach (TakesWell k.is_failed (Takes zone)) count (came, given) (gone, last)
-
--- some were, and then accepting failed, the keep did, or a word of the run couldn't be written
-pub record HasAnsweredSome {C K : Type 0} (k : keep.Ghosts K)
+-- so many connections were taken in turn over a keep, of those that come to a place, by its zone; it
+-- failed in none of them, and nothing else was done to it
+pub record HasAnswered {C K : Type 0} (k : keep.Ghosts K) (is_at : C → Type 0)
     (Takes : Zone → C × K → C × K → Type 0) (count : ℕ) (given last : K) : Type 0 where
   pub zone : Zone
   pub kept_zone : k.is_honest given → IsZoneOf (k.content given).settings.zone zone
   pub came : C
+  pub listened : is_at came
+  pub gone : C
+  pub each : TakesEach (TakesWell k.is_failed (Takes zone)) count (came, given) (gone, last)
+
+-- some were, and then accepting failed, the keep did, or a word of the run couldn't be written
+pub record HasAnsweredSome {C K : Type 0} (k : keep.Ghosts K) (is_at : C → Type 0)
+    (Takes : Zone → C × K → C × K → Type 0) (count : ℕ) (given last : K) : Type 0 where
+  pub zone : Zone
+  pub kept_zone : k.is_honest given → IsZoneOf (k.content given).settings.zone zone
+  pub came : C
+  pub listened : is_at came
   pub some : HasTakenSome k.is_failed (Takes zone) count (came, given) last
 
 -- however it ended: or none was, since the zone can't be read or nobody listens
-abbrev pub MayHaveAnswered : {C K : Type 0} → keep.Ghosts K → (Zone → C × K → C × K → Type 0) → ℕ
-    → K → K → Type 0
-MayHaveAnswered k Takes count given last = (last ≡ given) ⊎ HasAnsweredSome k Takes count given last
+abbrev pub MayHaveAnswered : {C K : Type 0} → keep.Ghosts K → (C → Type 0)
+    → (Zone → C × K → C × K → Type 0) → ℕ → K → K → Type 0
+MayHaveAnswered k is_at Takes count given last =
+    (last ≡ given) ⊎ HasAnsweredSome k is_at Takes count given last
 
 -- why answering ended: the output failed, accepting did, or the keep has
 abbrev pub IsServingFault : {K : Type 0} → keep.Ghosts K → K → TaskFault → Type 0
@@ -50,17 +53,19 @@ IsServingFault k last fault = (fault ≡ Write) ⊎ (fault ≡ Socket)
     ⊎ ((fault ≡ Store) × (k.is_failed last ≡ true))
 
 -- a keep was begun in the way that is named, connections were answered, and it was ended
-pub record HasServed {C K L : Type 0} (k : keep.Ghosts K) (is_ended : K → L → Type 0)
-    (Takes : Zone → C × K → C × K → Type 0) (count : ℕ) (given : K) (left : L) : Type 0 where
+pub record HasServed {C K L : Type 0} (k : keep.Ghosts K) (is_at : C → Type 0)
+    (is_ended : K → L → Type 0) (Takes : Zone → C × K → C × K → Type 0) (count : ℕ) (given : K)
+    (left : L) : Type 0 where
   pub last : K
-  pub answered : HasAnswered k Takes count given last
+  pub answered : HasAnswered k is_at Takes count given last
   pub ended : is_ended last left
 
 -- this is left of it, however it was served
-pub record IsServedOver {C K L : Type 0} (k : keep.Ghosts K) (is_ended is_left : K → L → Type 0)
-    (Takes : Zone → C × K → C × K → Type 0) (count : ℕ) (given : K) (left : L) : Type 0 where
+pub record IsServedOver {C K L : Type 0} (k : keep.Ghosts K) (is_at : C → Type 0)
+    (is_ended is_left : K → L → Type 0) (Takes : Zone → C × K → C × K → Type 0) (count : ℕ)
+    (given : K) (left : L) : Type 0 where
   pub last : K
-  pub answered : MayHaveAnswered k Takes count given last
+  pub answered : MayHaveAnswered k is_at Takes count given last
   pub over : IsOver is_ended is_left last left
 
 -- ---- the words of the others

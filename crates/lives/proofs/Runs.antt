@@ -166,12 +166,13 @@ module _ {D : Type 0} {g : Ghosts D} (image left : Image) (name : List ℕ) (fil
 
   pub servings_are_runs : {C R W : Type 0} (input : source.Ghosts R) (output : sink.Ghosts W)
       (accepts : C → Result (Option (Connection R W)) Failure → C → Type 0)
-      (ends : C → Connection R W → Result Served ServeFault → C → Type 0) (most count : ℕ)
+      (ends : C → Connection R W → Result Served ServeFault → C → Type 0) (is_at : C → Type 0)
+      (most count : ℕ)
       → HasDone (IsOpened (content over_order) is_failed (IsHonest over_order) (MayLeave over_order)
-      name image name) (IsServedOver (over_disk g) (IsEnded g) (IsLeft g)
+      name image name) (IsServedOver (over_disk g) is_at (IsEnded g) (IsLeft g)
       (λ zone. Takes (over_disk g) input output accepts ends zone most) count) files
       → EndsAs g left files (MayAnswer g image)
-  servings_are_runs input output accepts ends most count run =
+  servings_are_runs input output accepts ends is_at most count run =
       where_ended run.done.last run.done.over (λ Ends ended. elim run.done.answered [
         | inl same ↦ inl (read_run Ends run.given run.done.last run.begun (read_nothing
             (content over_order) is_failed (IsHonest over_order) (MayLeave over_order) run.given

@@ -46,6 +46,7 @@ ghost use Rattle.tree_order.specs.declared.renumbered.Renumbered.{Renumbered};
 use house_rows::Keep;
 use site_connections::Connections;
 use sqlite_disk::Disk;
+use tcp::Listen;
 
 /// Files that held a history hold one after a life: of whatever an opening, a run over the keep, and then
 /// a crash or an end made of them, there is a life of the run, and they hold the history after it.
@@ -122,13 +123,13 @@ pub fn connections_are_messages_in_turn<C: Connections, K: Keep>()
 
 /// What serving leaves of the files, or of the store where its keep could not be ended, is left by a run of
 /// messages, by the kept zone.
-pub fn servings_are_runs<D: Disk, C: Connections>()
+pub fn servings_are_runs<D: Disk, C: Listen>()
     ensures { (image left : Image) (name : List ℕ) (files : Files D)
         → AreClean D.Disk files.log files.db → outcomes D.Disk files.log files.db left
-        → (most count : ℕ)
+        → (most count port : ℕ)
         → HasDone (IsOpened (content over_order) is_failed (IsHonest over_order)
         (MayLeave over_order) name image name)
-        (IsServedOver (over_disk D.Disk) (IsEnded D.Disk) (IsLeft D.Disk)
+        (IsServedOver (over_disk D.Disk) (λ came. C.is_at came port) (IsEnded D.Disk) (IsLeft D.Disk)
         (λ zone. Takes (over_disk D.Disk) C.Input.Source C.Output.Sink C.accepts C.ends zone most)
         count) files
         → EndsAs D.Disk left files (MayAnswer D.Disk image) }

@@ -1,5 +1,5 @@
 //! The connections of a listener.
-ghost use Rattle.std.specs.Prelude.{⊤};
+ghost use Rattle.std.specs.Prelude.{⊤, ℕ, IfOk};
 
 use crate::stream::Steady;
 use device::{Failure, Reading, Writing};
@@ -85,11 +85,18 @@ fn hang_up(stream: &TcpStream) {
 
 /// Connections that come to a port of this machine.
 pub trait Listen: Sized + Connections + Drop {
+    /// Whether they come to a port.
+    ghost is_at: { Self → ℕ → Type 0 };
+
     /// So many that come to it.
-    fn listen(rt: &HostRuntime, port: u16, count: u64) -> Result<Self, Failure>;
+    fn listen(rt: &HostRuntime, port: u16, count: u64) -> Result<Self, Failure>
+        ensures { IfOk result (λ connections. is_at connections port) };
 }
 
 impl Listen for Listener {
+    // No clause of a socket says at which port it listens.
+    ghost is_at = { λ _ _. ⊤ };
+
     fn listen(rt: &HostRuntime, port: u16, count: u64) -> Result<Listener, Failure> {
         match TcpListener::bind(rt, (Ipv4Addr::LOCALHOST, port)) {
             Ok(listener) => Ok(Listener::new(listener, count)),

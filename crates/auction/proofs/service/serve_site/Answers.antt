@@ -12,6 +12,7 @@ returns-in-Ok-clause-all g c =
       zone = zone_of c.args.site;
       kept_zone = c.requires.zone;
       came = c.in-Ok.connections;
+      listened = c.in-Ok.ensures;
       gone = c.serve_connections.new.connections;
       each = each;
     })
@@ -21,6 +22,7 @@ returns-in-Ok-clause-some g c = inr (record {
   zone = zone_of c.args.site;
   kept_zone = c.requires.zone;
   came = c.in-Ok.connections;
+  listened = c.in-Ok.ensures;
   some = some_of_answered g.K.Keep.is_failed
       (Takes g.K.Keep g.C.Input.Source g.C.Output.Sink g.C.Connections.accepts g.C.Connections.ends
       (zone_of c.args.site) 10000) c.args.asked.count g.C.Connections.accepts
