@@ -1,14 +1,16 @@
 -- What keeps have by what their files showed as they were opened.
-use Rattle.std.proofs.Common.{◌≡◌, ◌∙◌, ℕ, List, [], Bool, false, Result, Ok, Err, subst, sym}
+use Rattle.std.proofs.Common.{◌≡◌, ◌∙◌, ℕ, List, [], Bool, false, true, Result, Ok, Err, subst, sym}
 use Rattle.std.specs.Prelude.{IfOk}
 use Rattle.house_rows.specs.Tables.{Tables, tables_of}
 use Rattle.house_rows.specs.declared.settings.Settings.{Settings}
+use Rattle.sqlite.specs.Effect.{Database}
 use Rattle.sqlite.specs.Files.{HoldsDatabase}
 use Rattle.sqlite_trees.specs.Tree.{Trees}
 use Rattle.sqlite_wal.specs.Recovery.{Image}
 use Rattle.store_files.specs.InOrder.{HoldsNoTable, HoldsTables, tables_after}
 use Rattle.store_files.specs.Opened.{IsMade, IsOpened, IsUpgraded}
-use Rattle.store_house.specs.Named.{tables_held}
+use Rattle.store_house.specs.Named.{IsArranged, UpgradesHeld, tables_held}
+use Rattle.store_rows.specs.House.{IsHouse}
 
 -- as files hold what they showed
 abbrev pub bytes_of : List ℕ → List ℕ → Image
@@ -37,12 +39,23 @@ module _ {K : Type 0} (content : K → Tables) (is_failed : K → Bool) (is_hone
     begun = record { only = only; works = works };
   }
 
-  pub upgraded_of : (was_first : Bool) → (is_honest keep → (db : Trees) → HoldsDatabase seen db
+  pub upgraded_of : (shown : K → Database) (was_first : Bool)
+      → (is_honest keep → (db : Trees) → HoldsDatabase seen db
       → content keep ≡ tables_after was_first db)
-      → IsUpgraded content is_failed is_honest may_leave name image path was_first keep
-  upgraded_of was_first holds = record {
+      → (is_honest keep → IsHouse (shown keep))
+      → (is_honest keep → was_first ≡ true → (db : Trees) → HoldsDatabase seen db
+      → UpgradesHeld db (shown keep))
+      → (is_honest keep → was_first ≡ false → (db : Trees) → HoldsDatabase seen db
+      → IsArranged db (shown keep).trees)
+      → IsUpgraded content is_failed is_honest may_leave shown name image path was_first keep
+  upgraded_of shown was_first holds house first kept = record {
     found = λ at honest db held.
         holds honest db (subst (λ i. HoldsDatabase i db) (sym (same at)) held);
+    house = house;
+    first = λ at honest was db held.
+        first honest was db (subst (λ i. HoldsDatabase i db) (sym (same at)) held);
+    kept = λ at honest was db held.
+        kept honest was db (subst (λ i. HoldsDatabase i db) (sym (same at)) held);
     begun = record { only = only; works = works };
   }
 

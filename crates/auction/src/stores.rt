@@ -6,6 +6,7 @@ ghost use Rattle.sqlite_wal.specs.Files.{image_at};
 ghost use Rattle.store.specs.InOrder.{over_order};
 ghost use Rattle.store.specs.Kept.{House, IsHonest, MayLeave, content, is_failed};
 ghost use Rattle.store_files.specs.InOrder.{LeavesFilesInOrder, LeavesFilesNew, LeavesFilesUpgraded};
+ghost use Rattle.store_files.specs.InOrder.{shown_house};
 ghost use Rattle.store_files.specs.Opened.{IsMade, IsOpened, IsUpgraded};
 ghost use Rattle.tree_order.specs.declared.renumbered.Renumbered.{Renumbered as TheRenumbered};
 
@@ -204,7 +205,7 @@ impl<D: DiskInFile> StoreBelow for FileStore<D> {
         (MayLeave over_order) D.First.name (image_at D.First.Start) };
 
     ghost is_upgraded = { IsUpgraded (content over_order) is_failed (IsHonest over_order)
-        (MayLeave over_order) D.First.name (image_at D.First.Start) };
+        (MayLeave over_order) shown_house D.First.name (image_at D.First.Start) };
 
     ghost is_held = { λ path rest. path ≡ D.First.name → (files : _) × D.are_fresh files
         × (IsCleanLeft rest → LeavesFilesInOrder files rest) };

@@ -1,5 +1,5 @@
 -- What the runs of the program leave.
-use Rattle.std.proofs.Common.{◌≡◌, ◌∙◌, ◌⊎◌, ℕ, List, [], Bool, arith, refl, inl, inr, sym, subst}
+use Rattle.std.proofs.Common.{◌≡◌, ◌∙◌, ◌⊎◌, ℕ, List, [], Bool, true, false, arith, refl, inl, inr, sym, subst}
 use Rattle.std.proofs.Math.Logic.{∥∥₁_map}
 use Rattle.auction_runs.specs.Listed.{IsOrderedOver}
 use Rattle.auction_runs.specs.Over.{IsOver, IsReadOver}
@@ -20,6 +20,7 @@ use Rattle.site_connections.specs.Turns.{Takes}
 use Rattle.site_connections.specs.declared.connection.Connection.{Connection}
 use Rattle.site_serve.specs.declared.server.ServeFault.{ServeFault}
 use Rattle.site_serve.specs.declared.server.Served.{Served}
+use Rattle.sqlite.specs.Effect.{Database}
 use Rattle.sqlite.specs.Files.{HoldsDatabase}
 use Rattle.sqlite_disk.specs.declared.Disk.{Ghosts}
 use Rattle.sqlite_disk.specs.declared.Files.{Files}
@@ -33,10 +34,11 @@ use Rattle.store.specs.Closing.{IsEnded, IsLeft}
 use Rattle.store.specs.InOrder.{over_order}
 use Rattle.store.specs.Kept.{House, IsHonest, MayLeave, content, is_failed}
 use Rattle.store_files.specs.Opened.{IsMade, IsOpened, IsUpgraded}
-use Rattle.store_files.specs.InOrder.{HoldsTables, tables_after}
-use Rattle.store_house.specs.Named.{tables_held}
+use Rattle.store_files.specs.InOrder.{HoldsTables, shown_house, tables_after}
+use Rattle.store_house.specs.Named.{IsArranged, UpgradesHeld, tables_held}
+use Rattle.store_rows.specs.House.{IsHouse}
 use Rattle.tree_order.specs.declared.renumbered.Renumbered.{Renumbered}
-use Rattle.lives.specs.Lives.{Answers, AreInTurn, Does, EndsAs, FindsTables, HoldHistory, IsAnswering, IsBegun, IsRunTo, Leaves, MayAnswer, MaySet, Run, Sets, over_disk}
+use Rattle.lives.specs.Lives.{Answers, AreInTurn, Does, EndsAs, FindsTables, HoldHistory, HoldsToldHouse, IsAnswering, IsBegun, IsRunTo, Leaves, MayAnswer, MaySet, Run, Sets, over_disk}
 use Rattle.lives.proofs.Lives.{made_holds, was_honest}
 use Rattle.lives.proofs.Turns.{of_orders, of_some}
 
@@ -51,6 +53,16 @@ read_nothing content is_failed is_honest may_leave old new same = subst
       stays = λ failed. failed;
       crash = λ _ t may. may;
     })
+
+-- the house that an upgrade shows was made of one of version 1, or it was there
+told_house : (was_first : Bool) (db : Trees) (now : Database) → IsHouse now
+    → (was_first ≡ true → UpgradesHeld db now) → (was_first ≡ false → IsArranged db now.trees)
+    → HoldsToldHouse was_first db
+told_house true db now house first kept =
+    let held = first refl in
+    let was = held.upgrades.was in
+    (was.0, was.1, subst (λ (t : Trees). IsArranged db t) (sym was.2) held.arranged)
+told_house false db now house first kept = (now, house, kept refl)
 
 module _ {D : Type 0} {g : Ghosts D} (image left : Image) (name : List ℕ) (files : Files D)
     (clean : AreClean g files.log files.db) (outcome : outcomes g files.log files.db left) where
@@ -214,26 +226,32 @@ module _ {D : Type 0} {g : Ghosts D} (image left : Image) (name : List ℕ) (fil
   )
 
   pub upgrades_leave_the_tables : HasDone (IsUpgradedAs (IsUpgraded (content over_order) is_failed
-      (IsHonest over_order) (MayLeave over_order) name image name)) (IsOver (IsEnded g) (IsLeft g)) files
+      (IsHonest over_order) (MayLeave over_order) shown_house name image name))
+      (IsOver (IsEnded g) (IsLeft g)) files
       → (was_first : Bool) × ((db : Trees) → HoldsDatabase image db
-      → ∥ HoldsTables left (tables_after was_first db) ∥₁
-      ⊎ FindsTables g files (λ t. t ≡ tables_after was_first db))
+      → (HoldsToldHouse was_first db × ∥ HoldsTables left (tables_after was_first db) ∥₁)
+      ⊎ FindsTables g files (λ t. HoldsToldHouse was_first db × (t ≡ tables_after was_first db)))
   upgrades_leave_the_tables run = (
     run.begun.was_first,
-    λ db holds. elim run.done [
-      | inl ended ↦ inl (
-          let honest = (ended.kept clean).honest in
-          let is = run.begun.upgraded in
-          ∥∥₁_map ((ended.kept clean).left left outcome) (λ found.
-          let r : HoldsTables left (tables_after run.begun.was_first db) = record {
-            db = found.0;
-            holds = found.1;
-            tables = sym (is.begun.only honest (tables_held found.0) found.2
-                ∙ is.found refl honest db holds);
-          } in
-          r))
-      | inr not ↦ inr (finds_tables run.given run.begun.upgraded.begun not
-          (λ t. t ≡ tables_after run.begun.was_first db)
-          (λ honest. run.begun.upgraded.found refl honest db holds))
-    ],
+    λ db holds.
+        let is = run.begun.upgraded in
+        let told : IsHonest over_order run.given → HoldsToldHouse run.begun.was_first db = λ honest.
+        told_house run.begun.was_first db (shown_house run.given) (is.house honest)
+        (λ was. is.first refl honest was db holds) (λ was. is.kept refl honest was db holds) in
+        elim run.done [
+          | inl ended ↦ inl (
+            told (ended.kept clean).honest,
+            ∥∥₁_map ((ended.kept clean).left left outcome) (λ found.
+                let r : HoldsTables left (tables_after run.begun.was_first db) = record {
+                  db = found.0;
+                  holds = found.1;
+                  tables = sym (is.begun.only (ended.kept clean).honest (tables_held found.0) found.2
+                      ∙ is.found refl (ended.kept clean).honest db holds);
+                } in
+                r),
+          )
+          | inr not ↦ inr (finds_tables run.given is.begun not
+              (λ t. HoldsToldHouse run.begun.was_first db × (t ≡ tables_after run.begun.was_first db))
+              (λ honest. (told honest, is.found refl honest db holds)))
+        ],
   )

@@ -1,5 +1,5 @@
 -- The lives of a house's files. Start here.
-use Rattle.std.specs.Prelude.{◌≡◌, ◌⊎◌, ℕ, List, [], ◌∷◌, false, length, None}
+use Rattle.std.specs.Prelude.{◌≡◌, ◌⊎◌, ℕ, Bool, List, [], ◌∷◌, false, true, length, None}
 use Rattle.steps.specs.Table.{Band}
 use Rattle.auction_runs.specs.Tabled.{MayTable}
 use Rattle.house_laws.specs.Lives.{Life, life_history, lives_history}
@@ -29,7 +29,7 @@ use Rattle.store.specs.InOrder.{over_order}
 use Rattle.store.specs.Kept.{House, IsHonest, MayLeave, content, is_failed}
 use Rattle.store_files.specs.Opened.{IsOpened}
 use Rattle.store_files.specs.InOrder.{HoldsTables}
-use Rattle.store_house.specs.Named.{tables_held}
+use Rattle.store_house.specs.Named.{HoldsFirstHouse, HoldsHouse, tables_held}
 use Rattle.tree_order.specs.declared.renumbered.Renumbered.{Renumbered}
 
 -- files hold the tables of a history
@@ -138,6 +138,12 @@ abbrev pub MaySet : {D : Type 0} → (g : disk.Ghosts D) → Image → ℕ → (
     → Type 0
 MaySet g image moment Ends = (bands : List Band)
     × ((zone : Zone) → IsRunTo g zone image (Sets moment bands) Ends)
+
+-- A database holds a house of version 1 where an upgrade tells that it found one, and otherwise one of
+-- version 2.
+abbrev pub HoldsToldHouse : Bool → Trees → Type 0
+HoldsToldHouse true db = HoldsFirstHouse db
+HoldsToldHouse false db = HoldsHouse db
 
 -- So it is of a keep that was ended, of whose files this was left, or of one that could not be.
 abbrev pub EndsAs : {D : Type 0} → (g : disk.Ghosts D) → Image → Files D

@@ -20,7 +20,7 @@ ghost use Rattle.house_rows.specs.Verdict.{IsHistory};
 ghost use Rattle.lives.specs.Lives.{Answers, AreInTurn, AreLivesOf, AreRuns, AreToldAlike, EndsAs};
 ghost use Rattle.lives.specs.Lives.{FindsHistory, FindsTables, HoldHistory, IsRun, IsRunTo};
 ghost use Rattle.lives.specs.Lives.{IsUnended, LeaveHistories, LeavesLife, MayAnswer, MayFind};
-ghost use Rattle.lives.specs.Lives.{MaySet, Run, over_disk};
+ghost use Rattle.lives.specs.Lives.{HoldsToldHouse, MaySet, Run, over_disk};
 ghost use Rattle.office.specs.declared.lister.Lister.{Lister};
 ghost use Rattle.settle.specs.declared.zone.Zone.{Zone};
 ghost use Rattle.site.specs.Histories.{Steps};
@@ -39,7 +39,7 @@ ghost use Rattle.store.specs.Closing.{IsEnded, IsLeft, MayHold};
 ghost use Rattle.store.specs.InOrder.{over_order};
 ghost use Rattle.store.specs.Kept.{House, IsHonest, MayLeave, content, is_failed};
 ghost use Rattle.store_files.specs.Opened.{IsMade, IsOpened, IsUpgraded};
-ghost use Rattle.store_files.specs.InOrder.{HoldsTables, tables_after};
+ghost use Rattle.store_files.specs.InOrder.{HoldsTables, shown_house, tables_after};
 ghost use Rattle.store_house.specs.Named.{tables_held};
 ghost use Rattle.tree_order.specs.declared.renumbered.Renumbered.{Renumbered};
 
@@ -183,13 +183,16 @@ pub fn makings_leave_no_history<D: Disk>()
         ⊎ FindsTables D.Disk files (λ t. t ≡ tables_of settings [])) }
 {}
 
-/// What an upgrade leaves of files has the tables that they held, of version 1 or 2.
+/// What an upgrade leaves of files has the tables that they held, of version 1 or 2, and the house that
+/// they held was of the version that it tells.
 pub fn upgrades_leave_the_tables<D: Disk>()
     ensures { (image left : Image) (name : List ℕ) (files : Files D)
         → AreClean D.Disk files.log files.db → outcomes D.Disk files.log files.db left
         → HasDone (IsUpgradedAs (IsUpgraded (content over_order) is_failed (IsHonest over_order)
-        (MayLeave over_order) name image name)) (IsOver (IsEnded D.Disk) (IsLeft D.Disk)) files
+        (MayLeave over_order) shown_house name image name))
+        (IsOver (IsEnded D.Disk) (IsLeft D.Disk)) files
         → (was_first : Bool) × ((db : Trees) → HoldsDatabase image db
-        → ∥ HoldsTables left (tables_after was_first db) ∥₁
-        ⊎ FindsTables D.Disk files (λ t. t ≡ tables_after was_first db)) }
+        → (HoldsToldHouse was_first db × ∥ HoldsTables left (tables_after was_first db) ∥₁)
+        ⊎ FindsTables D.Disk files (λ t. HoldsToldHouse was_first db
+        × (t ≡ tables_after was_first db))) }
 {}

@@ -53,6 +53,11 @@ abbrev pub HasTablesHeld : {D : Type 0} {g : disk.Ghosts D} → Image
 HasTablesHeld image keep = IsHonest over_order keep → (db : Trees) → HoldsDatabase image db
     → content over_order keep ≡ tables_held db
 
+-- the database that a keep shows, in the order of a house
+abbrev pub shown_house : {D : Type 0} {g : disk.Ghosts D} → House (Renumbered (FileStore D g))
+    → Database
+shown_house keep = (order_state keep.conn).now
+
 -- the tables of what files held, after an upgrade that found a house of version 1 or not
 abbrev pub tables_after : Bool → Trees → Tables
 tables_after true db = first_tables_held db

@@ -1,10 +1,13 @@
 -- A keep that was opened at a path, by what the files held that lay there. Start here.
-use Rattle.std.specs.Prelude.{◌≡◌, ℕ, List, [], Bool, false}
+use Rattle.std.specs.Prelude.{◌≡◌, ℕ, List, [], Bool, false, true}
 use Rattle.house_rows.specs.Tables.{Tables, tables_of}
 use Rattle.house_rows.specs.declared.settings.Settings.{Settings}
+use Rattle.sqlite.specs.Effect.{Database}
 use Rattle.sqlite.specs.Files.{HoldsDatabase}
 use Rattle.sqlite_trees.specs.Tree.{Trees}
 use Rattle.sqlite_wal.specs.Recovery.{Image}
+use Rattle.store_house.specs.Named.{IsArranged, UpgradesHeld}
+use Rattle.store_rows.specs.House.{IsHouse}
 use Rattle.store_files.specs.InOrder.{HoldsNoTable, HoldsTables, tables_after}
 
 -- A crash leaves the tables of a keep alone, and the keep has not failed.
@@ -31,10 +34,17 @@ pub record IsMade {K : Type 0} (content : K → Tables) (is_failed : K → Bool)
   pub begun : IsBegun content is_failed is_honest may_leave keep
 
 -- A keep was opened at a path, and its house upgraded where it was of version 1. Where this is the
--- name of files that held this, it has the tables of what they held.
+-- name of files that held this, it has the tables of what they held. The house that it shows was
+-- made of the one of version 1 that they held; or it is the one of version 2, whole, where it says
+-- that it upgraded none.
 pub record IsUpgraded {K : Type 0} (content : K → Tables) (is_failed : K → Bool)
-    (is_honest : K → Type 0) (may_leave : K → Tables → Type 0) (name : List ℕ) (image : Image)
-    (path : List ℕ) (was_first : Bool) (keep : K) : Type 0 where
+    (is_honest : K → Type 0) (may_leave : K → Tables → Type 0) (shown : K → Database)
+    (name : List ℕ) (image : Image) (path : List ℕ) (was_first : Bool) (keep : K) : Type 0 where
   pub found : path ≡ name → is_honest keep → (db : Trees) → HoldsDatabase image db
       → content keep ≡ tables_after was_first db
+  pub house : is_honest keep → IsHouse (shown keep)
+  pub first : path ≡ name → is_honest keep → was_first ≡ true → (db : Trees)
+      → HoldsDatabase image db → UpgradesHeld db (shown keep)
+  pub kept : path ≡ name → is_honest keep → was_first ≡ false → (db : Trees)
+      → HoldsDatabase image db → IsArranged db (shown keep).trees
   pub begun : IsBegun content is_failed is_honest may_leave keep

@@ -1,11 +1,11 @@
 //! Keeps of a house in a log and a database file whose trees lie in any order.
 //!
 //! Promised: an opening takes a sound house whatever the order of its trees in the file, and has
-//! the tables that their names find. A making fills files that hold no table, and an upgrade keeps
-//! the tables of a house of version 1. As long as the disk was honest, an opening of what a crash
-//! leaves of such a keep's files finds, by the names of the tables, what the crash may leave of the
-//! keep. A house in files is also opened over copies of these in memory: such a keep has the tables
-//! that the files hold, and nothing is written into them.
+//! the tables that their names find. A making fills files that hold no table. An upgrade keeps the
+//! tables of a house of version 1, leaves one of version 2 as it is, and tells which it found. As long
+//! as the disk was honest, an opening of what a crash leaves of such a keep's files finds, by the names
+//! of the tables, what the crash may leave of the keep. A house in files is also opened over copies of
+//! these in memory: such a keep has the tables that the files hold, and nothing is written into them.
 //!
 //! Read `specs/InOrder.antt` first, then `openings`, `creations` and `upgrades`, and `reopenings`
 //! for what a crash does.

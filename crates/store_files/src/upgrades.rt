@@ -1,13 +1,15 @@
 //! The house in two files is upgraded.
-ghost use Rattle.std.specs.Prelude.{◌≡◌, ◌⊎◌, false, IfErr, IfOk};
+ghost use Rattle.std.specs.Prelude.{◌≡◌, ◌⊎◌, false, true, IfErr, IfOk};
 ghost use Rattle.house_rows.specs.Tables.{Tables};
 ghost use Rattle.house_rows.specs.declared.fault.KeepFault.TheVariants.{Damaged};
 ghost use Rattle.sqlite.specs.Files.{HoldsDatabase, IsCleanLeft, faults_left, faults_of, image_of};
 ghost use Rattle.sqlite_disk.specs.Disk.{MoreFaults};
 ghost use Rattle.sqlite_trees.specs.Tree.{Trees};
 ghost use Rattle.sqlite_wal.specs.Reads.{AreClean};
-ghost use Rattle.store.specs.InOrder.{over_order};
+ghost use Rattle.store.specs.InOrder.{order_state, over_order};
 ghost use Rattle.store.specs.Kept.{IsHonest, MayLeave, content, is_failed};
+ghost use Rattle.store_house.specs.Named.{IsArranged, UpgradesHeld};
+ghost use Rattle.store_rows.specs.House.{IsHouse};
 ghost use Rattle.store_files.specs.InOrder.{HoldsSoundFirstHouse, HoldsSoundHouse};
 ghost use Rattle.store_files.specs.InOrder.{LeavesFilesUpgraded, tables_after};
 
@@ -22,7 +24,7 @@ use tree_order::Renumbered;
 
 /// The keep of the house that a log and a database file hold, in whatever order its trees lie, made
 /// one of this version where it is of version 1, and whether it was. A house of this version is not
-/// changed.
+/// changed: the keep shows what the files held, in the order of a house.
 ///
 /// `Damaged` where they hold no house of either version. After an error what is left of the files is
 /// given back: they hold what they held, or a crash may find the house upgraded in them.
@@ -36,6 +38,14 @@ pub fn upgrade_files<D: Disk + Drop>(
     ensures holds { IfOk result (λ r. IsHonest over_order r.0 → (db : Trees)
         → HoldsDatabase (image_of D.Disk files) db
         → content over_order r.0 ≡ tables_after r.1 db) }
+    ensures house { IfOk result (λ r. IsHonest over_order r.0
+        → IsHouse (order_state r.0.conn).now) }
+    ensures first { IfOk result (λ r. IsHonest over_order r.0 → r.1 ≡ true → (db : Trees)
+        → HoldsDatabase (image_of D.Disk files) db
+        → UpgradesHeld db (order_state r.0.conn).now) }
+    ensures kept { IfOk result (λ r. IsHonest over_order r.0 → r.1 ≡ false → (db : Trees)
+        → HoldsDatabase (image_of D.Disk files) db
+        → IsArranged db (order_state r.0.conn).now.trees) }
     ensures only { IfOk result (λ r. IsHonest over_order r.0 → (tables : Tables)
         → MayLeave over_order r.0 tables → tables ≡ content over_order r.0) }
     ensures works { IfOk result (λ r. is_failed r.0 ≡ false) }

@@ -4,6 +4,7 @@ use Rattle.sqlite.specs.Files.{file_state}
 use Rattle.sqlite.specs.State.{HasCleanDisk}
 use Rattle.sqlite_trees.proofs.Doubt.{no_doubt}
 use Rattle.store_rows.specs.Tables.{tables_in}
+use Rattle.store_house.specs.Named.{IsArranged, UpgradesHeld}
 use Rattle.store.specs.InOrder.{order_state}
 use Rattle.store_files.proofs.Opened.{holds_no_first, holds_none}
 use Rattle.store_files.proofs.Upgraded.{leaves_upgraded, upgrade_finds}
@@ -21,6 +22,23 @@ returns-in-Ok-clause-holds g c = rw (c.of_house.ensures.conn) (λ honest db held
     upgrade_finds g.D.Disk c.args.files g.met.D.Disk.seen_may_stay conn.conn (conn.ensures.opened sure) (conn.ensures.found sure) house.was_first
     (order_state house.house.conn).now (house.ensures.upgraded honest)
     (λ second. ((house.ensures.opened.rests honest).house, house.ensures.kept honest second)) db ((conn.ensures.found sure).holds db held))
+
+pub returns-in-Ok-clause-house : goal.returns-in-Ok-clause-house
+returns-in-Ok-clause-house g c = rw (c.of_house.ensures.conn) (λ honest. (c.in-Ok.ensures.opened.rests honest).house)
+
+pub returns-in-Ok-clause-first : goal.returns-in-Ok-clause-first
+returns-in-Ok-clause-first g c = rw (c.of_house.ensures.conn) (λ honest first db held.
+    let conn = c.in_ok-conn in
+    let house = c.in-Ok in
+    let sure : HasCleanDisk (file_state conn.conn) = house.ensures.clean honest in
+    subst (λ below. UpgradesHeld below (order_state house.house.conn).now) ((conn.ensures.found sure).holds db held) (house.ensures.upgraded honest first))
+
+pub returns-in-Ok-clause-kept : goal.returns-in-Ok-clause-kept
+returns-in-Ok-clause-kept g c = rw (c.of_house.ensures.conn) (λ honest second db held.
+    let conn = c.in_ok-conn in
+    let house = c.in-Ok in
+    let sure : HasCleanDisk (file_state conn.conn) = house.ensures.clean honest in
+    subst (λ below. IsArranged below (order_state house.house.conn).now.trees) ((conn.ensures.found sure).holds db held) (house.ensures.kept honest second))
 
 pub returns-in-Ok-clause-only : goal.returns-in-Ok-clause-only
 returns-in-Ok-clause-only g c = rw (c.of_house.ensures.conn) (λ honest tables left. left.2 ∙ ap tables_in (c.in-Ok.ensures.opened.only honest left.0 left.1))
