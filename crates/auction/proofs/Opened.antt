@@ -7,7 +7,7 @@ use Rattle.sqlite.specs.Effect.{Database}
 use Rattle.sqlite.specs.Files.{HoldsDatabase}
 use Rattle.sqlite_trees.specs.Tree.{Trees}
 use Rattle.sqlite_wal.specs.Recovery.{Image}
-use Rattle.store_files.specs.InOrder.{HoldsNoTable, HoldsTables, tables_after}
+use Rattle.store_files.specs.InOrder.{FindsHouse, FindsNoTable, FindsUpgraded, HoldsNoTable, HoldsTables, tables_after}
 use Rattle.store_files.specs.Opened.{IsMade, IsOpened, IsUpgraded}
 use Rattle.store_house.specs.Named.{IsArranged, UpgradesHeld, tables_held}
 use Rattle.store_rows.specs.House.{IsHouse}
@@ -22,19 +22,23 @@ module _ {K : Type 0} (content : K → Tables) (is_failed : K → Bool) (is_hone
     (only : is_honest keep → (t : Tables) → may_leave keep t → t ≡ content keep)
     (works : is_failed keep ≡ false) where
   pub opened_of : (is_honest keep → (db : Trees) → HoldsDatabase seen db → content keep ≡ tables_held db)
+      → (is_honest keep → FindsHouse seen (content keep))
       → IsOpened content is_failed is_honest may_leave name image path keep
-  opened_of holds = record {
+  opened_of holds there = record {
     found = λ at honest t held.
         holds honest held.db (subst (λ i. HoldsDatabase i held.db) (sym (same at)) held.holds)
         ∙ sym held.tables;
+    there = λ at honest. subst (λ i. FindsHouse i (content keep)) (same at) (there honest);
     begun = record { only = only; works = works };
   }
 
   pub made_of : (settings : Settings) → (is_honest keep → HoldsNoTable seen)
+      → (is_honest keep → FindsNoTable seen)
       → (is_honest keep → content keep ≡ tables_of settings [])
       → IsMade content is_failed is_honest may_leave name image path settings keep
-  made_of settings blank empty = record {
+  made_of settings blank there empty = record {
     blank = λ at honest. subst HoldsNoTable (same at) (blank honest);
+    there = λ at honest. subst FindsNoTable (same at) (there honest);
     empty = empty;
     begun = record { only = only; works = works };
   }
@@ -47,8 +51,9 @@ module _ {K : Type 0} (content : K → Tables) (is_failed : K → Bool) (is_hone
       → UpgradesHeld db (shown keep))
       → (is_honest keep → was_first ≡ false → (db : Trees) → HoldsDatabase seen db
       → IsArranged db (shown keep).trees)
+      → (is_honest keep → FindsUpgraded seen was_first (shown keep))
       → IsUpgraded content is_failed is_honest may_leave shown name image path was_first keep
-  upgraded_of shown was_first holds house first kept = record {
+  upgraded_of shown was_first holds house first kept there = record {
     found = λ at honest db held.
         holds honest db (subst (λ i. HoldsDatabase i db) (sym (same at)) held);
     house = house;
@@ -56,6 +61,7 @@ module _ {K : Type 0} (content : K → Tables) (is_failed : K → Bool) (is_hone
         first honest was db (subst (λ i. HoldsDatabase i db) (sym (same at)) held);
     kept = λ at honest was db held.
         kept honest was db (subst (λ i. HoldsDatabase i db) (sym (same at)) held);
+    there = λ at honest. subst (λ i. FindsUpgraded i was_first (shown keep)) (same at) (there honest);
     begun = record { only = only; works = works };
   }
 

@@ -6,6 +6,7 @@ use Rattle.sqlite_disk.specs.Disk.{MoreFaults}
 use Rattle.sqlite_disk.specs.declared.Disk as disk
 use Rattle.sqlite_disk.specs.declared.Files.{Files}
 use Rattle.sqlite_wal.proofs.LogLemmas.{SeenMayStay}
+use Rattle.sqlite_wal.specs.Recovery.{Image}
 use Rattle.sqlite_trees.proofs.Doubt.{no_doubt}
 use Rattle.sqlite_trees.specs.Objects.{catalog_tree}
 use Rattle.sqlite_trees.specs.Tree.{Trees}
@@ -15,7 +16,7 @@ use Rattle.sqlite_store.specs.FileStore.{recovers, view}
 use Rattle.sqlite_store.specs.Laws.{settled_at, stays_at}
 use Rattle.sqlite_store.specs.declared.store.FileStore.{FileStore}
 use Rattle.sqlite.specs.Effect.{Database}
-use Rattle.sqlite.specs.Files.{AreFound, FailsToOpenFiles, Finds, IsOpened, faults_left, faults_of, file_state, image_of, over_files}
+use Rattle.sqlite.specs.Files.{AreFound, AreFoundIn, FailsToOpenFiles, Finds, IsOpened, faults_left, faults_of, file_state, image_of, over_files}
 use Rattle.sqlite.specs.Held.{Held}
 use Rattle.sqlite.specs.Start.{FindsIn}
 use Rattle.sqlite.specs.State.{HasCleanDisk}
@@ -37,7 +38,7 @@ use Rattle.store.specs.InOrder.{order_state, over_order}
 use Rattle.store.specs.Kept.{House, MayLeave, content}
 use Rattle.store_files.proofs.Crashed.{found_left, found_same, recovered}
 use Rattle.store_files.proofs.Orders.{reordered_back, reordered_then}
-use Rattle.store_files.specs.InOrder.{FindsHeld, FindsLeft, HasTrees, HoldsNoDatabase, HoldsNoTable, HoldsSoundFirstHouse, HoldsSoundHouse, IsCrashed, IsFound, LeavesFilesInOrder, MayShow}
+use Rattle.store_files.specs.InOrder.{FindsHeld, FindsHouse, FindsLeft, FindsNoTable, HasTrees, HoldsNoDatabase, HoldsNoTable, HoldsSoundFirstHouse, HoldsSoundHouse, IsCrashed, IsFound, LeavesFilesInOrder, MayShow}
 
 -- ---- a house by its names
 
@@ -48,6 +49,15 @@ has_trees held found table other order = record {
   tables = λ house.
       sym (found_in_order found house.0 other (reordered_then found held house.0.trees (reordered_back held found order) house.2.order) house.1)
       ∙ found_in_order held house.0 table house.2.order house.1;
+}
+
+-- the house that a keep shows of what was found in files was found in them
+pub finds_house : (image : Image) (t : Tables) (db : Trees) (now : Database) → AreFoundIn image db → IsHouse now → IsArranged db now.trees → t ≡ tables_held db → FindsHouse image t
+finds_house image t db now found house arranged tables = record {
+  db = db;
+  found = found;
+  house = (now, house, arranged);
+  tables = tables;
 }
 
 -- what a store has below is what it shows, in some order
@@ -138,3 +148,12 @@ module _ {D : Type 0} (g : disk.Ghosts D) (given : Files D) (stays : SeenMayStay
       let committed : Database = (file_state conn).committed in
       let schema : committed.schema ≡ db.schema = one_schema committed db (opened.1 opened.0.is_open).1 (finds.holds db.trees held) sound in
       sym schema ∙ ap (λ (d : Database). d.schema) (sym opened.0.clean) ∙ none
+
+  -- what it found in them is a database without one
+  pub finds_no_table : IsOpened conn → Finds given conn → (file_state conn).now.schema ≡ no_schema → FindsNoTable (image_of g given)
+  finds_no_table opened finds none = (
+    (file_state conn).committed,
+    (opened.1 opened.0.is_open).1,
+    finds.reads,
+    ap (λ (d : Database). d.schema) (sym opened.0.clean) ∙ none,
+  )

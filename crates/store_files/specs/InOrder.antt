@@ -9,7 +9,7 @@ use Rattle.sqlite_trees.specs.Tree.{Trees}
 use Rattle.sqlite_store.specs.FileStore.{files, recovers, view}
 use Rattle.sqlite_store.specs.declared.store.FileStore.{FileStore}
 use Rattle.sqlite.specs.Effect.{Database, IsDatabase}
-use Rattle.sqlite.specs.Files.{AreFound, HoldsDatabase, LeavesFiles, image_of}
+use Rattle.sqlite.specs.Files.{AreFound, AreFoundIn, HoldsDatabase, LeavesFiles, image_of}
 use Rattle.sqlite.specs.declared.file.Leftover.{Leftover}
 use Rattle.sqlite.specs.declared.file.Leftover.TheVariants as left
 use Rattle.house_rows.specs.Tables.{Tables, tables_of}
@@ -62,6 +62,26 @@ shown_house keep = (order_state keep.conn).now
 abbrev pub tables_after : Bool → Trees → Tables
 tables_after true db = first_tables_held db
 tables_after false db = tables_held db
+
+-- An opening finds what files recover to, or where they held nothing, trees without a row. What it
+-- finds in this is a house with these tables, by their names.
+pub record FindsHouse (image : Image) (t : Tables) : Type 0 where
+  pub db : Trees
+  pub found : AreFoundIn image db
+  pub house : HoldsHouse db
+  pub tables : t ≡ tables_held db
+
+-- What it finds in this is a database without a table.
+abbrev pub FindsNoTable : Image → Type 0
+FindsNoTable image = (db : Database) × IsDatabase db × AreFoundIn image db.trees
+    × (db.schema ≡ no_schema)
+
+-- What it finds in this is a house of version 1, of which this one was made, or it is this one.
+pub record FindsUpgraded (image : Image) (was_first : Bool) (now : Database) : Type 0 where
+  pub db : Trees
+  pub found : AreFoundIn image db
+  pub first : was_first ≡ true → UpgradesHeld db now
+  pub kept : was_first ≡ false → IsArranged db now.trees
 
 -- the database that an opening of files finds, which is the one that they hold
 pub record IsFound {D : Type 0} (g : disk.Ghosts D) (files : Files D) (db : Trees) : Type 0 where

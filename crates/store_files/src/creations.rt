@@ -7,7 +7,7 @@ ghost use Rattle.sqlite_wal.specs.Reads.{AreClean};
 ghost use Rattle.store_house.specs.Opening.{IsSoundHouse};
 ghost use Rattle.store.specs.Kept.{IsHonest, MayLeave, content, is_failed};
 ghost use Rattle.store.specs.InOrder.{order_state, over_order};
-ghost use Rattle.store_files.specs.InOrder.{HoldsNoTable, LeavesFilesNew};
+ghost use Rattle.store_files.specs.InOrder.{FindsNoTable, HoldsNoTable, LeavesFilesNew};
 
 use crate::openings::connect;
 use house_rows::{KeepFault, Settings};
@@ -34,6 +34,8 @@ pub fn create_files<D: Disk + Drop>(
         → AreClean D.Disk files.log files.db) }
     ensures blank { IfOk result (λ k. IsHonest over_order k
         → HoldsNoTable (image_of D.Disk files)) }
+    ensures there { IfOk result (λ k. IsHonest over_order k
+        → FindsNoTable (image_of D.Disk files)) }
     ensures empty { IfOk result (λ k. IsHonest over_order k
         → content over_order k ≡ tables_of settings.now []) }
     ensures opens { IfOk result (λ k. IsHonest over_order k → is_plain settings.now.zone ≡ true

@@ -2,8 +2,8 @@
 ghost use Rattle.std.specs.Prelude.{◌≡◌, ◌⊎◌, false, IfErr, IfOk};
 ghost use Rattle.house_rows.specs.Tables.{Tables};
 ghost use Rattle.house_rows.specs.declared.fault.KeepFault.TheVariants.{Damaged};
-ghost use Rattle.sqlite.specs.Files.{Finds, HoldsDatabase, IsCleanLeft, IsOpened, LeavesFiles};
-ghost use Rattle.sqlite.specs.Files.{faults_left, faults_of, file_state, image_of};
+ghost use Rattle.sqlite.specs.Files.{AreFound, Finds, HoldsDatabase, IsCleanLeft, IsOpened};
+ghost use Rattle.sqlite.specs.Files.{LeavesFiles, faults_left, faults_of, file_state, image_of};
 ghost use Rattle.sqlite.specs.State.{HasCleanDisk};
 ghost use Rattle.sqlite.specs.declared.error.Error.TheVariants.{SqliteFailure};
 ghost use Rattle.sqlite.specs.declared.error.ErrorCode.TheVariants.{DatabaseCorrupt, NotADatabase};
@@ -66,7 +66,8 @@ pub(crate) fn connect<D: Disk + Drop>(
 
 /// The keep of the house that a log and a database file hold, in whatever order its trees lie. It
 /// needs no end of the run before: where a crash has left the files of a keep so, it has one of the
-/// tables that the crash may leave, and of a keep that had not failed its own.
+/// tables that the crash may leave, and of a keep that had not failed its own. Files that hold nothing
+/// are no house.
 ///
 /// After an error the files are given back, which hold what they held.
 pub fn open_files<D: Disk + Drop>(
@@ -82,6 +83,9 @@ pub fn open_files<D: Disk + Drop>(
     ensures arranged { IfOk result (λ k. IsHonest over_order k → (db : Trees)
         → HoldsDatabase (image_of D.Disk files) db
         → IsArranged db (order_state k.conn).now.trees) }
+    ensures there { IfOk result (λ k. IsHonest over_order k → (db : Trees)
+        × AreFound D.Disk files db × IsArranged db (order_state k.conn).now.trees
+        × (content over_order k ≡ tables_held db)) }
     ensures found { IfOk result (λ k. IsHonest over_order k → (before : _)
         → IsCrashed D.Disk before (image_of D.Disk files) → FindsLeft D.Disk before k) }
     ensures only { IfOk result (λ k. IsHonest over_order k → (tables : Tables)

@@ -10,7 +10,7 @@ ghost use Rattle.store.specs.InOrder.{order_state, over_order};
 ghost use Rattle.store.specs.Kept.{IsHonest, MayLeave, content, is_failed};
 ghost use Rattle.store_house.specs.Named.{IsArranged, UpgradesHeld};
 ghost use Rattle.store_rows.specs.House.{IsHouse};
-ghost use Rattle.store_files.specs.InOrder.{HoldsSoundFirstHouse, HoldsSoundHouse};
+ghost use Rattle.store_files.specs.InOrder.{FindsUpgraded, HoldsSoundFirstHouse, HoldsSoundHouse};
 ghost use Rattle.store_files.specs.InOrder.{LeavesFilesUpgraded, tables_after};
 
 use crate::openings::connect;
@@ -46,6 +46,8 @@ pub fn upgrade_files<D: Disk + Drop>(
     ensures kept { IfOk result (λ r. IsHonest over_order r.0 → r.1 ≡ false → (db : Trees)
         → HoldsDatabase (image_of D.Disk files) db
         → IsArranged db (order_state r.0.conn).now.trees) }
+    ensures there { IfOk result (λ r. IsHonest over_order r.0
+        → FindsUpgraded (image_of D.Disk files) r.1 (order_state r.0.conn).now) }
     ensures only { IfOk result (λ r. IsHonest over_order r.0 → (tables : Tables)
         → MayLeave over_order r.0 tables → tables ≡ content over_order r.0) }
     ensures works { IfOk result (λ r. is_failed r.0 ≡ false) }

@@ -4,7 +4,7 @@ use Rattle.sqlite.specs.State.{HasCleanDisk}
 use Rattle.store_rows.specs.Tables.{tables_in}
 use Rattle.store.specs.InOrder.{order_state}
 use Rattle.store_files.proofs.Made.{leaves_made, leaves_new, opens_new, shows_new}
-use Rattle.store_files.proofs.Opened.{holds_no_table}
+use Rattle.store_files.proofs.Opened.{finds_no_table, holds_no_table}
 use Rattle.store_files.proofs.creations.create_files.Goals as goal
 
 pub returns-in-Ok-open_house-clause-blank : goal.returns-in-Ok-open_house-clause-blank
@@ -12,6 +12,12 @@ returns-in-Ok-open_house-clause-blank g c = rw (c.of_house.ensures.conn) (λ hon
     let conn = c.in_ok-conn in
     let sure : HasCleanDisk (file_state conn.conn) = omega (arith, c.in-Ok-open_house.ensures.follows.clean, c.make_house.ensures.crash.clean, honest) in
     holds_no_table g.D.Disk c.args.files g.met.D.Disk.seen_may_stay conn.conn (conn.ensures.opened sure) (conn.ensures.found sure) c.in-Ok.ensures.blank.1)
+
+pub returns-in-Ok-open_house-clause-there : goal.returns-in-Ok-open_house-clause-there
+returns-in-Ok-open_house-clause-there g c = rw (c.of_house.ensures.conn) (λ honest.
+    let conn = c.in_ok-conn in
+    let sure : HasCleanDisk (file_state conn.conn) = omega (arith, c.in-Ok-open_house.ensures.follows.clean, c.make_house.ensures.crash.clean, honest) in
+    finds_no_table g.D.Disk c.args.files g.met.D.Disk.seen_may_stay conn.conn (conn.ensures.opened sure) (conn.ensures.found sure) c.in-Ok.ensures.blank.1)
 
 pub returns-in-Ok-open_house-clause-empty : goal.returns-in-Ok-open_house-clause-empty
 returns-in-Ok-open_house-clause-empty g c = rw (c.of_house.ensures.conn) (λ honest.

@@ -25,6 +25,15 @@ returns-in-Ok-clause-arranged g c = rw (c.of_house.ensures.conn) (λ honest db h
     let sure : HasCleanDisk (file_state conn.conn) = omega (arith, house.ensures.follows.clean, honest) in
     subst (λ below. IsArranged below (order_state house.house.conn).now.trees) ((conn.ensures.found sure).holds db held) (house.ensures.arranged honest))
 
+pub returns-in-Ok-clause-there : goal.returns-in-Ok-clause-there
+returns-in-Ok-clause-there g c = rw (c.of_house.ensures.conn) (λ honest.
+    let conn = c.in_ok-conn in
+    let house = c.in-Ok in
+    let sure : HasCleanDisk (file_state conn.conn) = omega (arith, house.ensures.follows.clean, honest) in
+    let named = names_find g.D.Disk c.args.files g.met.D.Disk.seen_may_stay conn.conn (conn.ensures.opened sure) (order_state house.house.conn).now
+    (house.ensures.opened.rests honest).house (house.ensures.arranged honest) in
+    ((file_state conn.conn).committed.trees, (conn.ensures.found sure).reads, house.ensures.arranged honest, named))
+
 pub returns-in-Ok-clause-house : goal.returns-in-Ok-clause-house
 returns-in-Ok-clause-house g c = rw (c.of_house.ensures.conn) (λ honest. (c.in-Ok.ensures.opened.rests honest).house)
 

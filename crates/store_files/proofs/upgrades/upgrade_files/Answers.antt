@@ -40,6 +40,18 @@ returns-in-Ok-clause-kept g c = rw (c.of_house.ensures.conn) (λ honest second d
     let sure : HasCleanDisk (file_state conn.conn) = house.ensures.clean honest in
     subst (λ below. IsArranged below (order_state house.house.conn).now.trees) ((conn.ensures.found sure).holds db held) (house.ensures.kept honest second))
 
+pub returns-in-Ok-clause-there : goal.returns-in-Ok-clause-there
+returns-in-Ok-clause-there g c = rw (c.of_house.ensures.conn) (λ honest.
+    let conn = c.in_ok-conn in
+    let house = c.in-Ok in
+    let sure : HasCleanDisk (file_state conn.conn) = house.ensures.clean honest in
+    record {
+      db = (file_state conn.conn).committed.trees;
+      found = (conn.ensures.found sure).reads;
+      first = house.ensures.upgraded honest;
+      kept = house.ensures.kept honest;
+    })
+
 pub returns-in-Ok-clause-only : goal.returns-in-Ok-clause-only
 returns-in-Ok-clause-only g c = rw (c.of_house.ensures.conn) (λ honest tables left. left.2 ∙ ap tables_in (c.in-Ok.ensures.opened.only honest left.0 left.1))
 

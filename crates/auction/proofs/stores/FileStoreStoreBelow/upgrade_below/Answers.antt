@@ -6,7 +6,7 @@ returns-in-Ok-upgrade_files-clause-upgraded g c =
     let over = c.in-Ok-upgrade_files.ensures in
     upgraded_of _ _ _ _ _ c.args.path.now _ _ c.in-Ok-find_files.ensures.shown
     c.in-Ok-upgrade_files.upgraded.0 over.only over.works _ c.in-Ok-upgrade_files.upgraded.1 over.holds
-    over.house over.first over.kept
+    over.house over.first over.kept over.there
 
 pub returns-in-Err-upgrade_files-clause-left : goal.returns-in-Err-upgrade_files-clause-left
 returns-in-Err-upgrade_files-clause-left g c = λ at.
