@@ -25,6 +25,7 @@ use Rattle.sqlite_wal.specs.Recovery.{Image}
 use Rattle.store.specs.Closing.{MayHold}
 use Rattle.store.specs.InOrder.{over_order}
 use Rattle.store.specs.Kept.{House, IsHonest, MayLeave, content, is_failed}
+use Rattle.store_files.specs.InOrder.{FindsHouse}
 use Rattle.store_files.specs.Opened.{IsMade, IsOpened}
 use Rattle.store_house.specs.Named.{tables_held}
 use Rattle.tree_order.specs.declared.renumbered.Renumbered.{Renumbered}
@@ -121,6 +122,27 @@ module _ {D : Type 0} {g : Ghosts D} (settings : Settings) (zone : Zone) (h : Hi
       → FindsHistory settings zone h run t
   of_run (Answers asked replies) run = of_answers asked replies run
   of_run (Sets moment bands) table = of_setting moment bands table
+
+-- a keep of which a run was honest to its end was so as it was opened
+begun_honest : {D : Type 0} {g : Ghosts D} (opened begun : House (Renumbered (FileStore D g)))
+    → IsBegun (over_disk g) opened begun → IsHonest over_order begun → IsHonest over_order opened
+begun_honest opened begun (inl same) fine = subst (IsHonest over_order) same fine
+begun_honest opened begun (inr (read, works)) fine = read.honest fine
+
+opened_honest : {D : Type 0} {g : Ghosts D} (zone : Zone) (run : Run)
+    (opened last : House (Renumbered (FileStore D g))) → Does (over_disk g) zone run opened last
+    → IsHonest over_order last → IsHonest over_order opened
+opened_honest zone (Answers asked replies) opened last run honest =
+    begun_honest opened run.begun run.so (was_honest (content over_order) is_failed
+    (IsHonest over_order) (MayLeave over_order) zone asked replies run.begun run.after run.turn
+    (run.read.honest honest))
+opened_honest zone (Sets moment bands) opened last table honest = table.honest honest
+
+-- so it found a house in its files
+pub run_finds : {D : Type 0} {g : Ghosts D} (zone : Zone) (image left : Image) (run : Run)
+    → (was : IsRun g zone image run left) → FindsHouse image (content over_order was.opened)
+run_finds zone image left run was = was.is_opened.there refl
+    (opened_honest zone run was.opened was.last was.done was.ended.honest)
 
 -- a run leaves a life
 pub leaves : {D : Type 0} {g : Ghosts D} (settings : Settings) (zone : Zone) (h : History)

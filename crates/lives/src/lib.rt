@@ -1,8 +1,9 @@
 //! The lives of a house's files: from one run of the program to the next, and on.
 //!
-//! Read `specs/Lives.antt`. A run leaves a life (`runs_leave_lives`), runs leave the lives of a history
-//! (`runs_leave_histories`), and twin lives are told alike (`twin_lives_are_told_alike`). The laws after
-//! these say that what the program does over a house in a file is such a run.
+//! Read `specs/Lives.antt`. A run finds a house (`runs_find_houses`) and leaves a life
+//! (`runs_leave_lives`), runs leave the lives of a history (`runs_leave_histories`), and twin lives are
+//! told alike (`twin_lives_are_told_alike`). The laws after these say that what the program does over a
+//! house in a file is such a run.
 #![tactic(auto)]
 
 ghost use Rattle.std.specs.Prelude.{◌≡◌, ◌⊎◌, ◌∷◌, ℕ, List, [], Bool};
@@ -39,7 +40,7 @@ ghost use Rattle.store.specs.Closing.{IsEnded, IsLeft, MayHold};
 ghost use Rattle.store.specs.InOrder.{over_order};
 ghost use Rattle.store.specs.Kept.{House, IsHonest, MayLeave, content, is_failed};
 ghost use Rattle.store_files.specs.Opened.{IsMade, IsOpened, IsUpgraded};
-ghost use Rattle.store_files.specs.InOrder.{HoldsTables, shown_house, tables_after};
+ghost use Rattle.store_files.specs.InOrder.{FindsHouse, HoldsTables, shown_house, tables_after};
 ghost use Rattle.store_house.specs.Named.{tables_held};
 ghost use Rattle.tree_order.specs.declared.renumbered.Renumbered.{Renumbered};
 
@@ -47,6 +48,15 @@ use house_rows::Keep;
 use site_connections::Connections;
 use sqlite_disk::Disk;
 use tcp::Listen;
+
+/// A run is over files that hold a house: where its disk was honest, the tables with which its keep was
+/// opened are those of a house that is found in them. So over an empty file, or over one that is no
+/// database, there is none.
+pub fn runs_find_houses<D: Disk>()
+    ensures { (zone : Zone) (image left : Image) (run : Run)
+        → (was : IsRun D.Disk zone image run left)
+        → FindsHouse image (content over_order was.opened) }
+{}
 
 /// Files that held a history hold one after a life: of whatever an opening, a run over the keep, and then
 /// a crash or an end made of them, there is a life of the run, and they hold the history after it.
