@@ -12,7 +12,7 @@ use Rattle.tree_order.specs.declared.renumbered.Renumbered.{Renumbered}
 use Rattle.store_house.specs.Named.{tables_held}
 use Rattle.store.specs.InOrder.{over_order}
 use Rattle.store.specs.Kept.{House, IsHonest, content}
-use Rattle.store_files.specs.InOrder.{HasTablesHeld}
+use Rattle.store_files.specs.InOrder.{FindsHouse, HasFoundHouse, HasTablesHeld}
 
 same_image : (log db log' db' : List ℕ) → log ≡ log' → db ≡ db'
     → ◌≡◌ {A = Image} (record { log = log; db = db }) (record { log = log'; db = db' })
@@ -38,6 +38,19 @@ has_tables {f = f} g copy old new keep holds log db clean honest =
     subst (λ (image : Image). (db : Trees) → HoldsDatabase image db
     → content over_order keep ≡ tables_held db)
     (same_files f g copy old (log parts.0) (db parts.1)) (holds honest)
+
+-- and one with the tables of a house that is found in a copy has those of one that is found in the
+-- files
+pub has_found : {M D : Type 0} {f : disk.Ghosts M} (g : disk.Ghosts D) (copy : Files M)
+    (old new : Files D) (keep : House (Renumbered (FileStore M f)))
+    → (IsHonest over_order keep → FindsHouse (image_of f copy) (content over_order keep))
+    → (IsTrue (g.is_clean new.log) → f.seen copy.log ≡ g.seen old.log)
+    → (IsTrue (g.is_clean new.db) → f.seen copy.db ≡ g.seen old.db)
+    → AreClean g new.log new.db → HasFoundHouse (image_of g old) keep
+has_found {f = f} g copy old new keep there log db clean honest =
+    let parts = and_parts _ _ clean in
+    subst (λ (image : Image). FindsHouse image (content over_order keep))
+    (same_files f g copy old (log parts.0) (db parts.1)) (there honest)
 
 -- what files hold that were only read is what they held
 pub read_image : {D : Type 0} (g : disk.Ghosts D) (old new : Files D) → OnlyReads g old.log new.log

@@ -83,6 +83,11 @@ pub record FindsUpgraded (image : Image) (was_first : Bool) (now : Database) : T
   pub first : was_first ≡ true → UpgradesHeld db now
   pub kept : was_first ≡ false → IsArranged db now.trees
 
+-- a keep has the tables of a house that is found in what two files hold
+abbrev pub HasFoundHouse : {D : Type 0} {g : disk.Ghosts D} → Image
+    → House (Renumbered (FileStore D g)) → Type 0
+HasFoundHouse image keep = IsHonest over_order keep → FindsHouse image (content over_order keep)
+
 -- the database that an opening of files finds, which is the one that they hold
 pub record IsFound {D : Type 0} (g : disk.Ghosts D) (files : Files D) (db : Trees) : Type 0 where
   pub found : AreFound g files db

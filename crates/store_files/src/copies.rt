@@ -3,7 +3,7 @@ ghost use Rattle.std.specs.Prelude.{◌≡◌, false, IfOk, IsTrue};
 ghost use Rattle.sqlite.specs.Files.{image_of};
 ghost use Rattle.sqlite_wal.specs.Reads.{AreClean, OnlyReads};
 ghost use Rattle.store.specs.Kept.{is_failed};
-ghost use Rattle.store_files.specs.InOrder.{HasTablesHeld};
+ghost use Rattle.store_files.specs.InOrder.{HasFoundHouse, HasTablesHeld};
 
 use crate::copied_files::copy_files;
 use crate::openings::open_files;
@@ -66,6 +66,8 @@ fn open_copy<D: Disk, M: InMemory>(
     requires db { IsTrue (D.Disk.is_usable files.old.db) }
     ensures holds { IfOk result (λ keep. AreClean D.Disk files.new.log files.new.db
         → HasTablesHeld (image_of D.Disk files.old) keep) }
+    ensures there { IfOk result (λ keep. AreClean D.Disk files.new.log files.new.db
+        → HasFoundHouse (image_of D.Disk files.old) keep) }
     ensures works { IfOk result (λ keep. is_failed keep ≡ false) }
     ensures reads_log { OnlyReads D.Disk files.old.log files.new.log }
     ensures reads_db { OnlyReads D.Disk files.old.db files.new.db }
@@ -80,7 +82,8 @@ fn open_copy<D: Disk, M: InMemory>(
 }
 
 /// Two keeps of the house that a log and a database file hold in any order, each over a copy of
-/// them in memory. Both have the tables of that house, as long as the disk doesn't lie.
+/// them in memory. Both have the tables of that house, as long as the disk doesn't lie. Files that hold
+/// nothing are no house.
 ///
 /// The files are only read: they show what they did, and a crash leaves nothing else than before.
 /// `Damaged` where they hold no house that `open_files` opens, `Store` where they can't be read,
@@ -101,6 +104,10 @@ pub fn open_copies<D: Disk, M: InMemory>(
         → HasTablesHeld (image_of D.Disk files.old) keeps.0) }
     ensures right { IfOk result (λ keeps. AreClean D.Disk files.new.log files.new.db
         → HasTablesHeld (image_of D.Disk files.old) keeps.1) }
+    ensures left_there { IfOk result (λ keeps. AreClean D.Disk files.new.log files.new.db
+        → HasFoundHouse (image_of D.Disk files.old) keeps.0) }
+    ensures right_there { IfOk result (λ keeps. AreClean D.Disk files.new.log files.new.db
+        → HasFoundHouse (image_of D.Disk files.old) keeps.1) }
     ensures left_works { IfOk result (λ keeps. is_failed keeps.0 ≡ false) }
     ensures right_works { IfOk result (λ keeps. is_failed keeps.1 ≡ false) }
     ensures reads_log { OnlyReads D.Disk files.old.log files.new.log }

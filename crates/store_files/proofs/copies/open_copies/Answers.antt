@@ -1,6 +1,6 @@
 use Rattle.std.proofs.Common.{subst}
 use Rattle.store_files.proofs.Copied.{read_clean, read_image, read_twice}
-use Rattle.store_files.specs.InOrder.{HasTablesHeld}
+use Rattle.store_files.specs.InOrder.{HasFoundHouse, HasTablesHeld}
 use Rattle.store_files.proofs.copies.open_copies.Goals as goal
 
 pub returns-in-Ok-clause-left : goal.returns-in-Ok-clause-left
@@ -14,6 +14,18 @@ returns-in-Ok-clause-right g c clean =
     subst (λ image. HasTablesHeld image c.in-Ok.right)
     (read_image g.D.Disk c.args.files.now c.open_copy.new.files c.in_ok-left.ensures.reads_log
     c.in_ok-left.ensures.reads_db) (c.in-Ok.ensures.holds clean)
+
+pub returns-in-Ok-clause-left_there : goal.returns-in-Ok-clause-left_there
+returns-in-Ok-clause-left_there g c clean =
+    let mid = c.open_copy.new.files in
+    c.in_ok-left.ensures.there (read_clean g.D.Disk mid c.open_copy-2.new.files
+    c.in-Ok.ensures.reads_log c.in-Ok.ensures.reads_db clean)
+
+pub returns-in-Ok-clause-right_there : goal.returns-in-Ok-clause-right_there
+returns-in-Ok-clause-right_there g c clean =
+    subst (λ image. HasFoundHouse image c.in-Ok.right)
+    (read_image g.D.Disk c.args.files.now c.open_copy.new.files c.in_ok-left.ensures.reads_log
+    c.in_ok-left.ensures.reads_db) (c.in-Ok.ensures.there clean)
 
 pub returns-in-Ok-clause-reads_log : goal.returns-in-Ok-clause-reads_log
 returns-in-Ok-clause-reads_log g c =

@@ -1,6 +1,9 @@
 use Rattle.std.proofs.Common.{◌∙◌, Bool, List, cond, ℕ, ap₂, refl, subst, sym}
 use Rattle.sqlite.specs.Files.{HoldsDatabase}
 use Rattle.sqlite_disk.specs.Events.{Event, replay}
+use Rattle.store.specs.InOrder.{over_order}
+use Rattle.store.specs.Kept.{content}
+use Rattle.store_files.specs.InOrder.{FindsHouse}
 use Rattle.auction.proofs.Opened.{bytes_of}
 use Rattle.auction.proofs.copies.RenumberedFileStoreStoreInMemory.open_twice.Goals as goal
 
@@ -18,6 +21,10 @@ returns-in-Ok-clause-copies g c = λ at clean.
       right_has = λ honest t held.
           c.in-Ok.ensures.right clean honest held.db (subst (λ i. HoldsDatabase i held.db) (sym same) held.holds)
           ∙ sym held.tables;
+      left_there = λ honest.
+          subst (λ i. FindsHouse i (content over_order c.in-Ok.left)) same (c.in-Ok.ensures.left_there clean honest);
+      right_there = λ honest.
+          subst (λ i. FindsHouse i (content over_order c.in-Ok.right)) same (c.in-Ok.ensures.right_there clean honest);
     }
 
 pub returns-in-Ok-clause-reads : goal.returns-in-Ok-clause-reads
