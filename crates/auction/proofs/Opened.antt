@@ -7,7 +7,7 @@ use Rattle.sqlite.specs.Effect.{Database}
 use Rattle.sqlite.specs.Files.{HoldsDatabase}
 use Rattle.sqlite_trees.specs.Tree.{Trees}
 use Rattle.sqlite_wal.specs.Recovery.{Image}
-use Rattle.store_files.specs.InOrder.{FindsHouse, FindsNoTable, FindsUpgraded, HoldsNoTable, HoldsTables, tables_after}
+use Rattle.store_files.specs.InOrder.{FindsHouse, FindsNoTable, FindsUpgraded, HoldsNoTable, tables_after}
 use Rattle.store_files.specs.Opened.{IsMade, IsOpened, IsUpgraded}
 use Rattle.store_house.specs.Named.{IsArranged, UpgradesHeld, tables_held}
 use Rattle.store_rows.specs.House.{IsHouse}

@@ -1,5 +1,5 @@
 -- A setup that ended before its end.
-use Rattle.std.proofs.Common.{ℕ, List, [], ◌∷◌, ◌++◌, codes, refl}
+use Rattle.std.proofs.Common.{ℕ, List, ◌∷◌, ◌++◌, codes, refl}
 use Rattle.std.specs.List.{FoldsTo}
 use Rattle.site_request.specs.declared.asked.Asked.{Asked}
 use Rattle.auction_runs.specs.Setup.{IsCutOff, IsTaken, IsUntaken, member_text}

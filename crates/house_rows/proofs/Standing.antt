@@ -1,5 +1,5 @@
 -- An item whose rows fit is consistent.
-use Rattle.std.proofs.Common.{◌≡◌, ◌∙◌, ℕ, List, true, length, ap, sym, subst, inl, inr, Option, None, ◌≢◌, Bool, false, Some, IfSome}
+use Rattle.std.proofs.Common.{◌≡◌, ◌∙◌, ℕ, List, true, length, ap, sym, subst, inl, inr, Option, None, ◌≢◌, Bool, false, Some}
 use Rattle.std.specs.Prelude.{option_map}
 use Rattle.proxy.specs.Kept.{Kept, opening_of}
 use Rattle.proxy.specs.Opening.{Opening}

@@ -4,7 +4,6 @@ use Rattle.std.specs.Prelude.{Option, if◌then◌else◌, ◌==◌, nat_lt, fin
 use Rattle.std.specs.Borrow.{Bor}
 use Rattle.std.specs.List.{position_or_len}
 use Rattle.std.specs.Option.{option_copied}
-use Rattle.std.specs.Map.{update}
 use Rattle.std.specs.Slice.{IsItemAt}
 use Rattle.std.proofs.lemmas.Bool.Decides.{nat_tests}
 use Rattle.std.proofs.lemmas.List.Folds.{find_at, position_or_len_push}

@@ -1,18 +1,16 @@
 -- Standings that differ in the leader's maximum alone look the same to everybody else.
-use Rattle.std.proofs.Common.{◌≡◌, ◌≢◌, ℕ, ◌+◌, ◌<◌, ◌≤◌, List, [], ◌∷◌, ◌++◌, length, length-append, max, Option, Some, None, Bool, true, false, refl, ◌∙◌, ap, sym, arith, inl, inr, ◌⊎◌}
+use Rattle.std.proofs.Common.{◌≡◌, ◌≢◌, ℕ, ◌+◌, ◌<◌, ◌≤◌, List, [], ◌∷◌, ◌++◌, length, length-append, max, Option, Some, None, true, false, refl, ◌∙◌, ap, sym, arith, inl, inr, ◌⊎◌}
 use Rattle.std.specs.Prelude.{if◌then◌else◌, ◌==◌, IfSome, nat_le, unwrap_or}
-use Rattle.std.specs.List.{AllByRecursion}
 use Rattle.std.proofs.lemmas.Bool.Decides.{nat_tests}
 use Rattle.std.proofs.lemmas.Bool.{cases_lt, cases_eq}
 use Rattle.steps.specs.Table.{IsBandTable, over, step_at}
 use Rattle.steps.proofs.Rising.{step_positive, step_rises}
 use Rattle.proxy.specs.declared.bid.Bid.{Bid}
-use Rattle.proxy.specs.Bids.{bids_by, bids_not_by, first_at, floor, greatest, greatest_if_any, greatest_of, is_leader, leader, leads, maxima, met, met_by, one_more, price, price_by_bids, price_from, refusal, second, standing_of, top, with_reserve}
+use Rattle.proxy.specs.Bids.{bids_by, bids_not_by, first_at, floor, greatest, greatest_if_any, greatest_of, leader, maxima, met, met_by, one_more, price, price_by_bids, price_from, refusal, second, standing_of, top, with_reserve}
 use Rattle.proxy.specs.Opening.{Opening}
-use Rattle.proxy.specs.Kept.{Kept}
 use Rattle.proxy.specs.Surplus.{AreCovered, Covers, DifferInTop, IsSurplus, with_top}
 use Rattle.proxy.proofs.Judged.{refusal-other}
-use Rattle.proxy.proofs.Leads.{if_any_is, leader_above, leader_greatest, leader_kept, none_leads, not_by-more_other, not_by-more_same, second_kept, top-more, top_is}
+use Rattle.proxy.proofs.Leads.{leader_above, leader_greatest, leader_kept, none_leads, not_by-more_other, not_by-more_same, second_kept, top-more, top_is}
 
 by_bids : (bands : List (ℕ × ℕ)) (start x y : ℕ) (o : Option ℕ) → IfSome o (λ s. over bands s ≤ x) → IfSome o (λ s. over bands s ≤ y)
     → price_by_bids bands start x o ≡ price_by_bids bands start y o

@@ -1,22 +1,20 @@
 -- The route of a bid's target.
-use Rattle.std.proofs.Common.{◌≡◌, ℕ, zero, suc, ◌+◌, ◌-◌, ◌<◌, List, [], ◌∷◌, ◌++◌, drop, length, length-append, All, Bool, true, false, refl, ◌∙◌, ap, sym, subst, arith, inl, inr, Option, Some, None, Ok, codes}
-use Rattle.std.specs.Prelude.{◌==◌, ◌&&◌, cond, ltb, nat_eq, option_map, option_and_then, slice_get, is_some, if◌then◌else◌}
-use Rattle.std.specs.List.{ends_with, slice_split}
-use Rattle.std.specs.Str.{bytes_eq, is_utf8}
+use Rattle.std.proofs.Common.{◌≡◌, ℕ, zero, suc, ◌+◌, ◌-◌, ◌<◌, List, [], ◌∷◌, ◌++◌, drop, length, length-append, All, Bool, true, false, refl, ◌∙◌, ap, arith, Option, Some, None, Ok, codes}
+use Rattle.std.specs.Prelude.{◌==◌, cond, option_map, is_some}
+use Rattle.std.specs.List.{slice_split}
+use Rattle.std.specs.Str.{is_utf8}
 use Rattle.std.proofs.lemmas.Bool.{lt-ltb}
-use Rattle.std.proofs.lemmas.Bool.Decides.{nat_tests}
 use Rattle.std.proofs.lemmas.List.Elements.{All-cons, All-nil}
 use Rattle.std.proofs.Math.Seq.{drop-append_seam}
-use Rattle.std.proofs.lemmas.List.{append-nil, append_assoc}
-use Rattle.std.proofs.lemmas.List.Splits.{slice_split_at, slice_split_none}
+use Rattle.std.proofs.lemmas.List.Splits.{slice_split_at}
 use Rattle.matchit.specs.Route.{scan}
 use Rattle.matchit.specs.Router.{RouteOf}
 use Rattle.matchit.specs.Rows.{RowsOf, param_token}
-use Rattle.matchit.specs.Seek.{cuts, first, has_slash, longest_suffix, or_else, param_step, seek, segment, step, with_suffix}
+use Rattle.matchit.specs.Seek.{cuts, first, has_slash, longest_suffix, param_step, seek, segment, step, with_suffix}
 use Rattle.site_digits.specs.Digits.{number_in}
 use Rattle.site_request.specs.Numbers.{command_path_in}
-use Rattle.site_request.specs.Routes.{path_in, route_at, route_of}
-use Rattle.site_request.specs.Segments.{number_at, segment_at, segments}
+use Rattle.site_request.specs.Routes.{path_in, route_of}
+use Rattle.site_request.specs.Segments.{number_at, segment_at}
 use Rattle.site_request.specs.Table.{path_of, rows, table}
 use Rattle.site_request.specs.declared.command_path.CommandPath.TheVariants as command_path
 use Rattle.site_request.specs.declared.path.Path.{Path}

@@ -1,10 +1,10 @@
 -- The text of a bid asks for it.
-use Rattle.std.proofs.Common.{◌≡◌, ℕ, ◌+◌, ◌^◌, ◌<◌, ◌≤◌, List, [], ◌∷◌, ◌++◌, length, length-append, take, drop, map, filter, All, Bool, true, false, refl, ◌∙◌, ap, sym, subst, arith, inl, inr, decimal, codes, Option, Some, None, Ok, Err}
-use Rattle.std.specs.Prelude.{◌==◌, ◌&&◌, if◌then◌else◌, nat_le, nat_lt, option_and_then}
+use Rattle.std.proofs.Common.{◌≡◌, ℕ, ◌+◌, ◌^◌, ◌<◌, ◌≤◌, List, [], ◌∷◌, ◌++◌, length, length-append, take, drop, All, Bool, true, false, refl, ◌∙◌, ap, sym, arith, inl, decimal, codes, Some, Ok}
+use Rattle.std.specs.Prelude.{◌&&◌, nat_le, nat_lt}
 use Rattle.std.specs.Borrow.{Bor}
 use Rattle.std.specs.List.{list_all}
 use Rattle.std.specs.Char.{is_ascii_digit}
-use Rattle.std.specs.Str.{IsAscii, IsUtf8, all_ascii_digits, is_utf8}
+use Rattle.std.specs.Str.{IsAscii, all_ascii_digits}
 use Rattle.std.proofs.lemmas.Bool.Decides.{nat_tests}
 use Rattle.std.proofs.lemmas.Fmt.{IsAscii-decimal, decimal_nonempty, length-decimal-le}
 use Rattle.std.proofs.lemmas.List.{append-nil, append_assoc, drop_all, take_all}
@@ -13,35 +13,30 @@ use Rattle.std.proofs.lemmas.List.Folds.{list_all-append}
 use Rattle.std.proofs.lemmas.List.Sums.{AllPass-from_list_all}
 use Rattle.std.proofs.lemmas.Str.{IsAscii-append, IsUtf8-from_ascii, is_utf8-from_IsUtf8}
 use Rattle.std.proofs.lemmas.Str.Ascii.{IsAscii-from_all}
-use Rattle.httparse.specs.Grammar.{AllPass, Field, IsField, IsRequestHead, ReadsRequest, RequestHead, crlf, is_token_byte, is_uri_byte, is_value_byte, print_field, print_request, trim_ows}
-use Rattle.json.specs.Print.{escape, escape_byte}
-use Rattle.serde_json.specs.Data.{no_members, number, put, unsigned}
+use Rattle.httparse.specs.Grammar.{Field, IsField, IsRequestHead, RequestHead, crlf, is_token_byte, is_uri_byte, is_value_byte, print_request, trim_ows}
+use Rattle.json.specs.Print.{escape_byte}
 use Rattle.house_laws.specs.Covered.{Sealed, bid_message}
 use Rattle.house_rows.specs.declared.command.Command.TheVariants as bidding
-use Rattle.house_rows.specs.declared.message.Message.TheVariants.{Write}
 use Rattle.house_rows.specs.Limits.{last_moment}
 use Rattle.site_request.specs.Asked.{IsAsked, asked_of, asks_of, called, message_of, ordered}
 use Rattle.site_request.specs.declared.asked.Asked.{Asked}
 use Rattle.site_request.specs.Heads.{caller_in, moment_in, numbered}
 use Rattle.site_digits.specs.Digits.{number_in}
 use Rattle.site_bodies.specs.LoneNumber.{IsLone}
-use Rattle.site_bodies.specs.Members.{body_of}
 use Rattle.site_bodies.proofs.Alone.{whole_alone, whole_lone}
 use Rattle.site_bodies.proofs.Walked.{nothing_passed}
-use Rattle.site_request.specs.Commands.{bid_in, command_of, fields_in, object_at, or_no_object}
-use Rattle.site_request.specs.Fields.{◌>>=◌, number_at, or_wrong}
-use Rattle.site_request.specs.declared.field.Field.TheVariants as field
+use Rattle.site_request.specs.Commands.{bid_in, command_of, fields_in, object_at}
+use Rattle.site_request.specs.Fields.{number_at}
 use Rattle.site_request.specs.declared.command_path.CommandPath.TheVariants as command_path
 use Rattle.site_request.specs.Routes.{route_of}
 use Rattle.site_request.specs.declared.route.Route.TheVariants as route
-use Rattle.wire.specs.Fields.{Pair, body_length, has_host, has_transfer, length_by, values_of}
+use Rattle.wire.specs.Fields.{has_host, has_transfer, values_of}
 use Rattle.wire.specs.Frame as frame
-use Rattle.wire.specs.Frame.{IsFrame, IsFront, announced, fields_of, judged, with_body}
-use Rattle.wire.specs.Head.{BeginsHead}
+use Rattle.wire.specs.Frame.{IsFrame, IsFront, announced, fields_of, judged}
 use Rattle.wire.specs.Message.{Message}
 use Rattle.wire.proofs.OneFrame.{one_frame}
 use Rattle.site_bids.specs.Spelt.{IsSent, bid_body, bid_text}
-use Rattle.site_bids.proofs.BidRoutes.{bid_target, no_slash, target_route}
+use Rattle.site_bids.proofs.BidRoutes.{bid_target, target_route}
 use Rattle.site_bids.proofs.Decimals.{are_digits, count_back, digit_no_token, length_back, no_slashes, number_back, trim_digits, uri_digits, value_digits}
 
 -- the head of a bid, by the digits of its numbers

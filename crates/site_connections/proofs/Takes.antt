@@ -1,5 +1,5 @@
 -- Connections that are taken in turn.
-use Rattle.std.proofs.Common.{◌≡◌, ℕ, ◌+◌, ◌<◌, zero, suc, Bool, Option, Result, Err, add-one, refl, subst, sym, true, false, inl}
+use Rattle.std.proofs.Common.{◌≡◌, ℕ, ◌+◌, ◌<◌, zero, suc, Bool, Option, Result, Err, add-one, refl, subst, sym, true}
 use Rattle.device.specs.declared.failure.Failure.{Failure}
 use Rattle.device.specs.declared.sink.Sink as sink
 use Rattle.device.specs.declared.source.Source as source
@@ -9,8 +9,6 @@ use Rattle.site_serve.specs.declared.server.ServeFault.{ServeFault}
 use Rattle.site_serve.specs.declared.server.Served.{Served}
 use Rattle.site_connections.specs.Turns.{HasFailed, HasStopped, Takes, TakesEach, TakesWell}
 use Rattle.site_connections.specs.declared.connection.Connection.{Connection}
-use Rattle.site_connections.specs.declared.turns.TurnFault.{TurnFault}
-use Rattle.site_connections.specs.declared.turns.TurnFault.TheVariants as fault
 
 rest_after : {S : Type 0} (Takes : S → S → Type 0) (n : ℕ) (old mid new : S)
     → TakesEach Takes n old mid → Takes mid new → TakesEach Takes (suc n) old new

@@ -1,4 +1,4 @@
-use Rattle.std.proofs.Common.{◌≡◌, None, option_map, find, sym, ◌∙◌}
+use Rattle.std.proofs.Common.{◌≡◌, option_map, find, sym, ◌∙◌}
 use Rattle.list_rows.specs.Blocks.{rows_of}
 use Rattle.list_bids.specs.declared.tally.Tally.{Tally}
 use Rattle.list_bids.specs.Tallies.{is_tally}

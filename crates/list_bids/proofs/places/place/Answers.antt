@@ -1,11 +1,8 @@
-use Rattle.std.proofs.Common.{◌≡◌, List, Err, ap, sym, subst, ◌∙◌, arith, map, refl, false}
-use Rattle.std.specs.Prelude.{◌==◌, ◌&&◌}
-use Rattle.std.specs.List.{list_any}
+use Rattle.std.proofs.Common.{◌≡◌, List, Err, ap, sym, subst, ◌∙◌, arith, map, refl}
 use Rattle.house_rows.specs.Bids.{BidRow, bid_key}
-use Rattle.house_rows.specs.History.{Key, put_by}
+use Rattle.house_rows.specs.History.{Key}
 use Rattle.house_rows.specs.declared.item.OwnBest.{OwnBest}
 use Rattle.list_rows.specs.Blocks.{rows_of}
-use Rattle.list_rows.specs.Makes.{Makes}
 use Rattle.list_rows.proofs.Blocked.{rows_in_order}
 use Rattle.list_bids.specs.declared.tally.Tally.{Tally}
 use Rattle.list_bids.specs.Tallies.{best_among, pair_key, tally_in}
