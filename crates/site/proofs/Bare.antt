@@ -129,13 +129,12 @@ bare_tables settings h bare members categories editions clock =
     ) refl
 
 bare_if : (settings : Settings) (h : History) → IsHistory settings h
-    → length (tables_of settings h).editions + 1 ≡ 1 → length (tables_of settings h).members ≡ 0
+    → length (tables_of settings h).editions ≡ 0 → length (tables_of settings h).members ≡ 0
     → length (tables_of settings h).categories ≡ 0
     → (tables_of settings h).clock ≡ 0 → tables_of settings h ≡ tables_of settings []
 unfolding tables_of
-bare_if settings h is alone no_members no_categories clock =
+bare_if settings h is none_set no_members no_categories clock =
     let none = no_rows (members h) no_members in
-    let none_set : length (editions h) ≡ 0 = omega (arith, alone) in
     bare_tables settings h (is_bare settings h is none) none (no_rows (categories h) no_categories)
     (no_rows (editions h) none_set) clock
 
@@ -147,9 +146,20 @@ pub blank_reported : (settings : Settings) (h : History) (t : Tables) (blank : B
     → IsHistory settings h → t ≡ tables_of settings h
     → (blank ≡ true) ↔ AreBlank t → (blank ≡ true) ↔ (t ≡ tables_of settings [])
 blank_reported settings h t blank is e report = (
-  λ yes. let (alone, no_members, no_categories, no_items, clock) = rw e at (report.0 yes) in
-      rw e (bare_if settings h is alone no_members no_categories clock),
+  λ yes. let (none_set, no_members, no_categories, no_items, clock) = rw e at (report.0 yes) in
+      rw e (bare_if settings h is none_set no_members no_categories clock),
   λ same. report.1 (rw same (empty_blank settings)),
+)
+
+-- the first edition is the newest one exactly where no later band table was set
+blank_if : (t : Tables) (blank : Bool) → (blank ≡ true) ↔ ((length t.editions + 1 ≡ 1)
+    × (length t.members ≡ 0) × (length t.categories ≡ 0) × (length t.items ≡ 0) × (t.clock ≡ 0))
+    → (blank ≡ true) ↔ AreBlank t
+blank_if t blank report = (
+  λ yes. let (alone, members, categories, items, clock) = report.0 yes in
+      (omega (arith, alone), members, categories, items, clock),
+  λ are. let (none, members, categories, items, clock) = are in
+      report.1 (omega (arith, none), members, categories, items, clock),
 )
 
 -- the newest edition, counts and clock say whether tables are blank, whichever call they are read by
@@ -159,7 +169,7 @@ pub blank_by : (t mid : Tables) (newest : ℕ) (counts : Counts) (moment : ℕ) 
     × (moment ≡ 0))
     → (blank ≡ true) ↔ AreBlank t
 blank_by t mid newest counts moment blank alone counted same now report =
-    rw (now, same, counted, alone) at report
+    blank_if t blank (rw (now, same, counted, alone) at report)
 
 -- and of a history whether it is new
 pub new_reported : (settings : Settings) (h : History) (t mid : Tables) (newest : ℕ) (counts : Counts) (moment : ℕ)

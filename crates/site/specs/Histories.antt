@@ -1,5 +1,5 @@
 -- What the site's clauses say of a step and of a run, by the record of the keep's ghosts.
-use Rattle.std.specs.Prelude.{◌≡◌, ◌+◌, ℕ, List, length}
+use Rattle.std.specs.Prelude.{◌≡◌, ℕ, List, length}
 use Rattle.std.specs.List.{AllZip}
 use Rattle.house_rows.specs.Answers.{OverHistory}
 use Rattle.house_rows.specs.History.{History}
@@ -11,9 +11,9 @@ use Rattle.site_request.specs.Asked.{IsAsked}
 use Rattle.site_request.specs.declared.asked.Asked.{Asked}
 use Rattle.site.specs.Replies.{IsStep}
 
--- the first band table is the newest of the tables, and counts and clock are 0
+-- no later band table was set, and counts and clock are 0
 abbrev pub AreBlank : Tables → Type 0
-AreBlank t = (length t.editions + 1 ≡ 1) × (length t.members ≡ 0) × (length t.categories ≡ 0)
+AreBlank t = (length t.editions ≡ 0) × (length t.members ≡ 0) × (length t.categories ≡ 0)
     × (length t.items ≡ 0) × (t.clock ≡ 0)
 
 -- one message asks, and this is the reply
