@@ -178,6 +178,7 @@ own_change content is_failed is_honest may_leave moment caller command change ol
       change,
       (
         ready.own honest,
+        ready.fits honest,
         sound_change content is_failed is_honest may_leave moment caller command change old mid
             ready honest,
       ),
@@ -224,6 +225,7 @@ acted_by_change content is_failed is_honest may_leave zone closes moment caller 
             change,
             (
               ready.own b,
+              ready.fits b,
               sound_change content is_failed is_honest may_leave moment caller command change old
                   mid ready b,
             ),

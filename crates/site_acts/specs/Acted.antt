@@ -41,10 +41,12 @@ is_entered settings h (Write moment caller command) =
 is_entered settings h (Read caller query) = false
 is_entered settings h (Broken caller fault) = false
 
--- the change is the message's own, and fits where the tables are sound; only a command has one
+-- the change is the message's own, and fits where the rows do that deciding and making it take, so
+-- where the tables are sound; only a command has one
 abbrev pub IsOwn : Message RequestFault → Tables → Change → Type 0
-IsOwn (Write moment caller command) t change =
-    IsOf moment caller command change × (AreSound t → ChangeFits t change)
+IsOwn (Write moment caller command) t change = IsOf moment caller command change
+    × (CommandRowsFit t caller command → ChangeRowsFit t change → ChangeFits t change)
+    × (AreSound t → ChangeFits t change)
 IsOwn (Read caller query) t change = ⊥
 IsOwn (Broken caller fault) t change = ⊥
 
