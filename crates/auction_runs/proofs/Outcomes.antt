@@ -73,18 +73,19 @@ end_faults is_ended is_left keep left before after (Ok x) ended why done failed 
 end_faults is_ended is_left keep left before after (Err e) ended why done failed =
     end_fault is_ended is_left keep left before after ended e why done failed
 
--- and so is one that comes after another
-pub first_or_end_faults : {T K L : Type 0} (First : TaskFault → Type 0) (is_ended is_left : K → L → Type 0)
+-- and so is one that comes after another, where there is none before it
+pub first_or_end_faults : {T K L : Type 0} (First : TaskFault → Type 0) (None : Type 0)
+    (is_ended is_left : K → L → Type 0)
     (keep : K) (left : L) (before after : Option (List ℕ)) (r : Result T TaskFault)
     (ended : Result (Unit {0}) KeepFault)
-    → IfErr r (λ fault. First fault ⊎ IsOfEnded ended before after fault)
+    → IfErr r (λ fault. First fault ⊎ (None × IsOfEnded ended before after fault))
     → OnOk ended (is_ended keep left) → OnErr ended (is_left keep left)
-    → IfErr r (λ fault. First fault ⊎ IsOfEnd is_ended is_left keep left before after fault)
-first_or_end_faults First is_ended is_left keep left before after (Ok x) ended why done failed = tt
-first_or_end_faults First is_ended is_left keep left before after (Err e) ended (inl first) done
+    → IfErr r (λ fault. First fault ⊎ (None × IsOfEnd is_ended is_left keep left before after fault))
+first_or_end_faults First None is_ended is_left keep left before after (Ok x) ended why done failed = tt
+first_or_end_faults First None is_ended is_left keep left before after (Err e) ended (inl first) done
     failed = inl first
-first_or_end_faults First is_ended is_left keep left before after (Err e) ended (inr why) done failed =
-    inr (end_fault is_ended is_left keep left before after ended e why done failed)
+first_or_end_faults First None is_ended is_left keep left before after (Err e) ended (inr (none, why))
+    done failed = inr (none, end_fault is_ended is_left keep left before after ended e why done failed)
 
 -- what is so of a result, whichever it is
 pub either_end : {T E P Q : Type 0} (r : Result T E) → OnOk r P → OnErr r Q → P ⊎ Q

@@ -164,7 +164,8 @@ fn finish<W: Write>(
     ensures first { IfErr answered (λ fault. result ≡ Err fault) }
     ensures fault { IfErr result (λ fault.
         ((answered ≡ Err fault) × Keeps (W.contents output.old) (W.contents output.new))
-        ⊎ IsOfEnded ended (W.contents output.old) (W.contents output.new) fault) }
+        ⊎ (IsOk answered
+        × IsOfEnded ended (W.contents output.old) (W.contents output.new) fault)) }
 {
     outcome_after_end(answered, ended)?;
     write_served(output, count)
@@ -188,8 +189,8 @@ pub fn serve_run<W: Write, E: Sink, K: Ends>(
     ensures first { IfErr answered (IsTold E.Sink errors.old errors.new) }
     ensures reported { IsReported E.Sink
         (λ fault. ((answered ≡ Err fault) × Keeps (W.contents output.old) (W.contents output.new))
-        ⊎ IsOfEnd K.is_ended K.is_left keep result.1
-        (W.contents output.old) (W.contents output.new) fault)
+        ⊎ (IsOk answered × IsOfEnd K.is_ended K.is_left keep result.1
+        (W.contents output.old) (W.contents output.new) fault))
         errors.old errors.new result.0 }
     ensures within { result.0 ≤ 1 }
 {

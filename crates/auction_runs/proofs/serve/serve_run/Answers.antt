@@ -1,4 +1,5 @@
 use Rattle.std.proofs.Common.{◌≡◌, Err}
+use Rattle.std.specs.Prelude.{IsOk}
 use Rattle.std.specs.Io.KnownBytes.{Keeps}
 use Rattle.auction_runs.proofs.Outcomes.{either_end, first_or_end_faults, reported_by, where_done}
 use Rattle.auction_runs.proofs.serve.serve_run.Goals as goal
@@ -25,6 +26,6 @@ returns-clause-reported g c =
     reported_by g.E.Sink _ _ _ _ c.finish.result run.done run.fault run.quiet run.told
     (first_or_end_faults (λ fault. (c.args.answered ≡ Err fault)
     × Keeps (g.W.Write.contents c.args.output.now) (g.W.Write.contents c.finish.new.output))
-    g.K.Ends.is_ended g.K.Ends.is_left c.args.keep c.end-ended.result.1
+    (IsOk c.args.answered) g.K.Ends.is_ended g.K.Ends.is_left c.args.keep c.end-ended.result.1
     (g.W.Write.contents c.args.output.now) (g.W.Write.contents c.finish.new.output) c.finish.result c.end-ended.result.0 c.finish.ensures.fault
     c.end-ended.ensures.ended c.end-ended.ensures.left)
