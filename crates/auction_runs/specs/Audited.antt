@@ -120,9 +120,12 @@ pub record HasReported {K L R : Type 0} (houses : Houses) (content : K → Table
       verdict
   pub report : IsReported before after verdict equal
 
--- why nothing, or not all, was reported: the output failed, or the runs are not compared and nothing
--- was written
-abbrev pub IsUnreported : {K L R : Type 0} → (L → Option (List ℕ)) → (R → Option (List ℕ))
-    → Run K L → Run K R → Option (List ℕ) → Option (List ℕ) → TaskFault → Type 0
-IsUnreported left_bytes right_bytes left right before after fault = (fault ≡ Write)
+-- why nothing, or not all, was reported: the output failed after the runs were compared, or they are
+-- not compared and nothing was written
+abbrev pub IsUnreported : {K L R : Type 0} → Houses → (K → Tables) → (K → Bool) → (K → Type 0)
+    → (L → Option (List ℕ)) → (R → Option (List ℕ)) → ℕ → Run K L → Run K R → Option (List ℕ)
+    → Option (List ℕ) → TaskFault → Type 0
+IsUnreported houses content is_failed is_honest left_bytes right_bytes c left right before after fault =
+    ((fault ≡ Write) × ((verdict : Verdict)
+    × HasAudited houses content is_failed is_honest left_bytes right_bytes c left right verdict))
     ⊎ (IsUncompared left_bytes right_bytes left right fault × Keeps before after)

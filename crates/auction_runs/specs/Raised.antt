@@ -80,8 +80,12 @@ pub record HasShown {K S : Type 0} (houses : Houses) (content : K → Tables) (i
   pub tried : HasTried houses content is_failed is_honest bytes_of raise trial report
   pub shown : IsShown before after report covered
 
--- why nothing, or not all, was printed: the output failed, or nothing was found and nothing printed
-abbrev pub IsUnshown : {K S : Type 0} → (S → Option (List ℕ)) → Trial K S → Option (List ℕ)
-    → Option (List ℕ) → TaskFault → Type 0
-IsUnshown bytes_of trial before after fault =
-    (fault ≡ Write) ⊎ (IsUntried bytes_of trial fault × Keeps before after)
+-- why nothing, or not all, was printed: the output failed after something was found, or nothing was
+-- found and nothing printed
+abbrev pub IsUnshown : {K S : Type 0} → Houses → (K → Tables) → (K → Bool) → (K → Type 0)
+    → (S → Option (List ℕ)) → Raise → Trial K S → Option (List ℕ) → Option (List ℕ) → TaskFault
+    → Type 0
+IsUnshown houses content is_failed is_honest bytes_of raise trial before after fault =
+    ((fault ≡ Write) × ((report : Surplus)
+    × HasTried houses content is_failed is_honest bytes_of raise trial report))
+    ⊎ (IsUntried bytes_of trial fault × Keeps before after)

@@ -179,8 +179,8 @@ fn write_verdict<W: Write>(output: &mut W, verdict: &Verdict) -> Result<bool, Ta
 }
 
 /// Compares two runs of messages over two houses as a member sees them, and reports what was found.
-/// Ok is whether they are equal. What is wrong on the left is reported before what is wrong on the
-/// right. Where nothing was compared nothing is written.
+/// Ok is whether they are equal. Where neither source is a list, the left one's fault is reported.
+/// Where nothing was compared nothing is written, and the fault isn't `Write`.
 pub fn report_comparison<L: Source + Drop, R: Source + Drop, W: Write, K: Keep + Drop>(
     alloc: Global,
     houses: Houses,
@@ -192,7 +192,8 @@ pub fn report_comparison<L: Source + Drop, R: Source + Drop, W: Write, K: Keep +
     ensures report { IfOk result
         (HasReported houses K.content K.is_failed K.is_honest L.left R.left caller left right
         (W.contents output.old) (W.contents output.new)) }
-    ensures fault { IfErr result (IsUnreported L.left R.left left right
+    ensures fault { IfErr result
+        (IsUnreported houses K.content K.is_failed K.is_honest L.left R.left caller left right
         (W.contents output.old) (W.contents output.new)) }
 {
     let verdict = compare(alloc, houses, left, right, caller)?;
@@ -215,8 +216,8 @@ pub fn status<E: Sink>(errors: &mut E, equal: Result<bool, TaskFault>) -> u8
 }
 
 /// Compares two runs of messages over two houses as a member sees them, reports what was found, and
-/// gives the exit status: 0 where they are equal, and else 1. What is wrong on the left is reported
-/// before what is wrong on the right. A fault is written in its line on `errors`.
+/// gives the exit status: 0 where they are equal, and else 1. Where neither source is a list, the left
+/// one's fault is reported. A fault is written in its line on `errors`.
 pub fn audit_run<L: Source + Drop, R: Source + Drop, W: Write, E: Sink, K: Keep + Drop>(
     alloc: Global,
     houses: Houses,
@@ -232,7 +233,8 @@ pub fn audit_run<L: Source + Drop, R: Source + Drop, W: Write, E: Sink, K: Keep 
     ensures told { TellsFinding E.Sink
         (HasReported houses K.content K.is_failed K.is_honest L.left R.left caller left right
         (W.contents output.old) (W.contents output.new))
-        (IsUnreported L.left R.left left right (W.contents output.old) (W.contents output.new))
+        (IsUnreported houses K.content K.is_failed K.is_honest L.left R.left caller left right
+        (W.contents output.old) (W.contents output.new))
         errors.old errors.new result }
     ensures within { result ≤ 1 }
 {

@@ -130,8 +130,8 @@ pub fn report_surplus<S: Source + Drop, W: Write, K: Keep + Drop>(
 ) -> Result<bool, TaskFault>
     ensures report { IfOk result (HasShown houses K.content K.is_failed K.is_honest S.left raise trial
         (W.contents output.old) (W.contents output.new)) }
-    ensures fault { IfErr result
-        (IsUnshown S.left trial (W.contents output.old) (W.contents output.new)) }
+    ensures fault { IfErr result (IsUnshown houses K.content K.is_failed K.is_honest S.left raise trial
+        (W.contents output.old) (W.contents output.new)) }
 {
     let found = look(alloc, houses, trial, raise)?;
     write_finding(output, &found)
@@ -154,7 +154,8 @@ pub fn surplus_run<S: Source + Drop, W: Write, E: Sink, K: Keep + Drop>(
     ensures told { TellsFinding E.Sink
         (HasShown houses K.content K.is_failed K.is_honest S.left raise trial
         (W.contents output.old) (W.contents output.new))
-        (IsUnshown S.left trial (W.contents output.old) (W.contents output.new))
+        (IsUnshown houses K.content K.is_failed K.is_honest S.left raise trial
+        (W.contents output.old) (W.contents output.new))
         errors.old errors.new result }
     ensures within { result ≤ 1 }
 {
