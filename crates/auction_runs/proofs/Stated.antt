@@ -29,6 +29,9 @@ unread : {K A : Type 0} (content : K → Tables) (is_failed : K → Bool) (is_ho
     → (is_honest new → IsErrOf r stating.Member
     → is_some (member_at (content old).members asked.member) ≡ false)
     → (IsErrOf r stating.Order → asked.to < asked.from)
+    → (is_honest old → IsErrOf r stating.Member → IsReadable (content old).settings.zone)
+    → (is_honest new → IsErrOf r stating.Order → IsReadable (content old).settings.zone
+    × (is_some (member_at (content old).members asked.member) ≡ true))
     → (is_honest new → AreSound (content old) → IsErrOf r stating.Damaged
     → ¬ (IsReadable (content old).settings.zone))
     → (is_honest new → MemberFitsAt asked.member (content old)
@@ -36,45 +39,55 @@ unread : {K A : Type 0} (content : K → Tables) (is_failed : K → Bool) (is_ho
     → ¬ (IsReadable (content old).settings.zone))
     → (IsErrOf r stating.Store ↔ (is_failed new ≡ true))
     → IsUnread content is_failed is_honest asked old new (fault_of_statement f)
-unread content is_failed is_honest asked old new r stating.Memory gave member order damaged undamaged
-    store =
+unread content is_failed is_honest asked old new r stating.Memory gave member order zone last
+    damaged undamaged store =
     record {
       cause = inl (kept.Memory, refl);
       store = (λ e. absurd cc, λ failed. let other = store.1 failed in absurd cc);
       damaged = λ honest sound e. absurd cc;
       undamaged = λ honest fit sales e. absurd cc;
+      zone = λ honest e. absurd cc;
+      last = λ honest e. absurd cc;
     }
-unread content is_failed is_honest asked old new r stating.Store gave member order damaged undamaged
-    store =
+unread content is_failed is_honest asked old new r stating.Store gave member order zone last
+    damaged undamaged store =
     record {
       cause = inl (kept.Store, refl);
       store = (λ e. store.0 gave, λ failed. refl);
       damaged = λ honest sound e. absurd cc;
       undamaged = λ honest fit sales e. absurd cc;
+      zone = λ honest e. absurd cc;
+      last = λ honest e. absurd cc;
     }
-unread content is_failed is_honest asked old new r stating.Damaged gave member order damaged undamaged
-    store =
+unread content is_failed is_honest asked old new r stating.Damaged gave member order zone last
+    damaged undamaged store =
     record {
       cause = inl (kept.Damaged, refl);
       store = (λ e. absurd cc, λ failed. let other = store.1 failed in absurd cc);
       damaged = λ honest sound e. damaged honest sound gave;
       undamaged = λ honest fit sales e. undamaged honest fit sales gave;
+      zone = λ honest e. absurd cc;
+      last = λ honest e. absurd cc;
     }
-unread content is_failed is_honest asked old new r stating.Order gave member order damaged undamaged
-    store =
+unread content is_failed is_honest asked old new r stating.Order gave member order zone last
+    damaged undamaged store =
     record {
       cause = inr (inl (refl, order gave));
       store = (λ e. absurd cc, λ failed. let other = store.1 failed in absurd cc);
       damaged = λ honest sound e. absurd cc;
       undamaged = λ honest fit sales e. absurd cc;
+      zone = λ honest e. absurd cc;
+      last = λ honest e. last honest gave;
     }
-unread content is_failed is_honest asked old new r stating.Member gave member order damaged undamaged
-    store =
+unread content is_failed is_honest asked old new r stating.Member gave member order zone last
+    damaged undamaged store =
     record {
       cause = inr (inr (refl, λ honest. member honest gave));
       store = (λ e. absurd cc, λ failed. let other = store.1 failed in absurd cc);
       damaged = λ honest sound e. absurd cc;
       undamaged = λ honest fit sales e. absurd cc;
+      zone = λ honest e. zone honest gave;
+      last = λ honest e. absurd cc;
     }
 
 -- and is handed on
@@ -85,6 +98,9 @@ pub handed_on : {K A T : Type 0} (content : K → Tables) (is_failed : K → Boo
     → (is_honest new → IsErrOf r stating.Member
     → is_some (member_at (content old).members asked.member) ≡ false)
     → (IsErrOf r stating.Order → asked.to < asked.from)
+    → (is_honest old → IsErrOf r stating.Member → IsReadable (content old).settings.zone)
+    → (is_honest new → IsErrOf r stating.Order → IsReadable (content old).settings.zone
+    × (is_some (member_at (content old).members asked.member) ≡ true))
     → (is_honest new → AreSound (content old) → IsErrOf r stating.Damaged
     → ¬ (IsReadable (content old).settings.zone))
     → (is_honest new → MemberFitsAt asked.member (content old)
@@ -92,11 +108,12 @@ pub handed_on : {K A T : Type 0} (content : K → Tables) (is_failed : K → Boo
     → ¬ (IsReadable (content old).settings.zone))
     → (IsErrOf r stating.Store ↔ (is_failed new ≡ true))
     → IfErr result (IsUnread content is_failed is_honest asked old new)
-handed_on content is_failed is_honest asked old new r f (Ok x) gives gave member order damaged undamaged
-    store = absurd gives.1
-handed_on content is_failed is_honest asked old new r f (Err report) gives gave member order damaged
-    undamaged store = subst (IsUnread content is_failed is_honest asked old new) (sym gives.1)
-    (unread content is_failed is_honest asked old new r f gave member order damaged undamaged store)
+handed_on content is_failed is_honest asked old new r f (Ok x) gives gave member order zone last
+    damaged undamaged store = absurd gives.1
+handed_on content is_failed is_honest asked old new r f (Err report) gives gave member order zone last
+    damaged undamaged store = subst (IsUnread content is_failed is_honest asked old new) (sym gives.1)
+    (unread content is_failed is_honest asked old new r f gave member order zone last damaged undamaged
+    store)
 
 -- the fault that stands for one of writing
 pub unwritten : {T : Type 0} (old new : Option (List ℕ)) (was is : Bool)

@@ -39,12 +39,16 @@ IsUnfound content is_honest asked old new fault = IsOfKeep fault
     ⊎ ((fault ≡ Member) × (is_honest new
     → is_some (member_at (content old).members asked.member) ≡ false))
 
--- by one of these faults: Store exactly where the keep has failed, and Damaged only where the zone
--- can't be read or tables aren't sound, of whose rows the member's own count and those of the items to
--- whose sale it may be a party
+-- by one of these faults: Member and Order only where the zone can be read, Order only of a member that
+-- is there, Store exactly where the keep has failed, and Damaged only where the zone can't be read or
+-- tables aren't sound, of whose rows the member's own count and those of the items to whose sale it
+-- may be a party
 pub record IsUnread {K : Type 0} (content : K → Tables) (is_failed : K → Bool) (is_honest : K → Type 0)
     (asked : Inquiry) (old new : K) (fault : TaskFault) : Type 0 where
   pub cause : IsUnfound content is_honest asked old new fault
+  pub zone : is_honest old → fault ≡ Member → IsReadable (content old).settings.zone
+  pub last : is_honest new → fault ≡ Order → IsReadable (content old).settings.zone
+      × (is_some (member_at (content old).members asked.member) ≡ true)
   pub store : (fault ≡ Store) ↔ (is_failed new ≡ true)
   pub damaged : is_honest new → AreSound (content old) → fault ≡ Damaged
       → ¬ (IsReadable (content old).settings.zone)
