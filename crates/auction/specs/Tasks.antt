@@ -13,14 +13,14 @@ use Rattle.auction.specs.declared.remains.Remains.{Remains}
 
 -- a task was done over a keep that was opened, made or upgraded at the path, and it was ended. Of a task that
 -- is done over no keep in a file nothing is said here
-abbrev pub IsDone : {C K R L : Type 0} → keep.Ghosts K → (C → ℕ → Type 0) → (K → L → Type 0)
+abbrev pub IsDone : {C K R L : Type 0} → keep.Ghosts K → (C → ℕ → ℕ → Type 0) → (K → L → Type 0)
     → (List ℕ → K → Type 0) → (List ℕ → Settings → K → Type 0) → (List ℕ → Bool → K → Type 0)
     → (Zone → C × K → C × K → Type 0) → Task → Remains R L → Type 0
 IsDone k is_at is_ended is_opened is_new is_upgraded Takes (Init path words) = IsEndedAs
     (HasDone (IsMadeBy (is_new path.now) words) is_ended)
 IsDone k is_at is_ended is_opened is_new is_upgraded Takes (Serve path asked) = IsEndedAs
     (HasDone (is_opened path.now)
-    (HasServed k (λ came. is_at came asked.port) is_ended Takes asked.count))
+    (HasServed k (λ came. is_at came asked.port asked.count) is_ended Takes asked.count))
 IsDone k is_at is_ended is_opened is_new is_upgraded Takes (Import path asked) = IsEndedAs
     (HasDone (is_opened path.now)
     (λ given left. HasTaken k.content k.is_failed k.is_honest k.may_leave
@@ -38,7 +38,7 @@ IsDone k is_at is_ended is_opened is_new is_upgraded Takes (Audit begun asked) =
 IsDone k is_at is_ended is_opened is_new is_upgraded Takes (Surplus begun asked) = λ _. ⊤
 
 -- this is left of the file, however the task ended
-abbrev pub IsLeftOf : {C K R L : Type 0} → keep.Ghosts K → (C → ℕ → Type 0) → (K → L → Type 0)
+abbrev pub IsLeftOf : {C K R L : Type 0} → keep.Ghosts K → (C → ℕ → ℕ → Type 0) → (K → L → Type 0)
     → (K → L → Type 0)
     → (List ℕ → K → Type 0) → (List ℕ → Settings → K → Type 0) → (List ℕ → Bool → K → Type 0)
     → (List ℕ → R → Type 0) → (List ℕ → Settings → R → Type 0) → (List ℕ → R → Type 0)
@@ -49,7 +49,7 @@ IsLeftOf k is_at is_ended is_left is_opened is_new is_upgraded is_held is_made i
 IsLeftOf k is_at is_ended is_left is_opened is_new is_upgraded is_held is_made is_grown Takes
     (Serve path asked) = IsLeftAs (is_held path.now)
     (HasDone (is_opened path.now)
-    (IsServedOver k (λ came. is_at came asked.port) is_ended is_left Takes asked.count))
+    (IsServedOver k (λ came. is_at came asked.port asked.count) is_ended is_left Takes asked.count))
 IsLeftOf k is_at is_ended is_left is_opened is_new is_upgraded is_held is_made is_grown Takes
     (Import path asked) = IsLeftAs (is_held path.now)
     (HasDone (is_opened path.now)

@@ -27,11 +27,11 @@ fn serve_site<K: KeepInFile, C: Listen>(
 ) -> (Result<(), TaskFault>, K)
     requires zone { K.is_honest (keep_of site)
         → IsZoneOf (K.content (keep_of site)).settings.zone (zone_of site) }
-    ensures all { OnOk result.0 (HasAnswered K.Keep (λ came. C.is_at came asked.port)
+    ensures all { OnOk result.0 (HasAnswered K.Keep (λ came. C.is_at came asked.port asked.count)
         (λ zone. Takes K.Keep C.Input.Source C.Output.Sink C.accepts C.ends zone most_messages)
         asked.count (keep_of site) result.1) }
     ensures fault { IfErr result.0 (IsServingFault K.Keep result.1) }
-    ensures some { MayHaveAnswered K.Keep (λ came. C.is_at came asked.port)
+    ensures some { MayHaveAnswered K.Keep (λ came. C.is_at came asked.port asked.count)
         (λ zone. Takes K.Keep C.Input.Source C.Output.Sink C.accepts C.ends zone most_messages)
         asked.count (keep_of site) result.1 }
 {
@@ -51,12 +51,12 @@ fn serve_over<K: KeepInFile, C: Listen>(
     keep: K,
     asked: Serve,
 ) -> (Result<(), TaskFault>, K)
-    ensures all { OnOk result.0 (HasAnswered K.Keep (λ came. C.is_at came asked.port)
+    ensures all { OnOk result.0 (HasAnswered K.Keep (λ came. C.is_at came asked.port asked.count)
         (λ zone. Takes K.Keep C.Input.Source C.Output.Sink C.accepts C.ends zone most_messages)
         asked.count keep result.1) }
     ensures fault { IfErr result.0 (λ fault.
         IsServingFault K.Keep result.1 fault ⊎ IsOfKeep fault) }
-    ensures some { MayHaveAnswered K.Keep (λ came. C.is_at came asked.port)
+    ensures some { MayHaveAnswered K.Keep (λ came. C.is_at came asked.port asked.count)
         (λ zone. Takes K.Keep C.Input.Source C.Output.Sink C.accepts C.ends zone most_messages)
         asked.count keep result.1 }
 {
@@ -74,11 +74,11 @@ fn serve_keep<K: KeepInFile, C: Listen>(
     asked: Serve,
 ) -> (u8, K::Left)
     ensures served { result.0 ≡ 0 → HasServed K.Keep
-        (λ came. C.is_at came asked.port) K.is_ended
+        (λ came. C.is_at came asked.port asked.count) K.is_ended
         (λ zone. Takes K.Keep C.Input.Source C.Output.Sink C.accepts C.ends zone most_messages)
         asked.count keep result.1 }
     ensures left { IsServedOver K.Keep
-        (λ came. C.is_at came asked.port) K.is_ended K.is_left
+        (λ came. C.is_at came asked.port asked.count) K.is_ended K.is_left
         (λ zone. Takes K.Keep C.Input.Source C.Output.Sink C.accepts C.ends zone most_messages)
         asked.count keep result.1 }
     ensures within { result.0 ≤ 1 }
@@ -103,12 +103,12 @@ pub(crate) fn serve_file<K: KeepInFile, C: Listen>(
 ) -> (u8, Remains<K::Rest, K::Left>)
     ensures served { result.0 ≡ 0 → IsEndedAs (HasDone (K.is_opened path.now)
         (HasServed K.Keep
-        (λ came. C.is_at came asked.port) K.is_ended
+        (λ came. C.is_at came asked.port asked.count) K.is_ended
         (λ zone. Takes K.Keep C.Input.Source C.Output.Sink C.accepts C.ends zone most_messages)
         asked.count)) result.1 }
     ensures left { IsLeftAs (K.is_held path.now) (HasDone (K.is_opened path.now)
         (IsServedOver K.Keep
-        (λ came. C.is_at came asked.port) K.is_ended K.is_left
+        (λ came. C.is_at came asked.port asked.count) K.is_ended K.is_left
         (λ zone. Takes K.Keep C.Input.Source C.Output.Sink C.accepts C.ends zone most_messages)
         asked.count)) result.1 }
     ensures within { result.0 ≤ 1 }

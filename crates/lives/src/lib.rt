@@ -139,7 +139,7 @@ pub fn servings_are_runs<D: Disk, C: Listen>()
         → (most count port : ℕ)
         → HasDone (IsOpened (content over_order) is_failed (IsHonest over_order)
         (MayLeave over_order) name image name)
-        (IsServedOver (over_disk D.Disk) (λ came. C.is_at came port) (IsEnded D.Disk) (IsLeft D.Disk)
+        (IsServedOver (over_disk D.Disk) (λ came. C.is_at came port count) (IsEnded D.Disk) (IsLeft D.Disk)
         (λ zone. Takes (over_disk D.Disk) C.Input.Source C.Output.Sink C.accepts C.ends zone most)
         count) files
         → EndsAs D.Disk left files (MayAnswer D.Disk image) }

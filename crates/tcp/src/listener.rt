@@ -85,17 +85,17 @@ fn hang_up(stream: &TcpStream) {
 
 /// Connections that come to a port of this machine.
 pub trait Listen: Sized + Connections + Drop {
-    /// Whether they come to a port.
-    ghost is_at: { Self → ℕ → Type 0 };
+    /// Whether they come to a port, and at most so many are taken.
+    ghost is_at: { Self → ℕ → ℕ → Type 0 };
 
-    /// So many that come to it.
+    /// So many that come to a port, at most.
     fn listen(rt: &HostRuntime, port: u16, count: u64) -> Result<Self, Failure>
-        ensures { IfOk result (λ connections. is_at connections port) };
+        ensures { IfOk result (λ connections. is_at connections port count) };
 }
 
 impl Listen for Listener {
     // No clause of a socket says at which port it listens.
-    ghost is_at = { λ _ _. ⊤ };
+    ghost is_at = { λ _ _ _. ⊤ };
 
     fn listen(rt: &HostRuntime, port: u16, count: u64) -> Result<Listener, Failure> {
         match TcpListener::bind(rt, (Ipv4Addr::LOCALHOST, port)) {
