@@ -225,33 +225,32 @@ module _ {D : Type 0} {g : Ghosts D} (image left : Image) (name : List ℕ) (fil
     ],
   )
 
-  pub upgrades_leave_the_tables : HasDone (IsUpgradedAs (IsUpgraded (content over_order) is_failed
+  pub upgrades_leave_the_tables : (run : HasDone (IsUpgradedAs (IsUpgraded (content over_order) is_failed
       (IsHonest over_order) (MayLeave over_order) shown_house name image name))
-      (IsOver (IsEnded g) (IsLeft g)) files
-      → (was_first : Bool) × ((db : Trees) → HoldsDatabase image db
-      → (HoldsToldHouse was_first db × ∥ HoldsTables left (tables_after was_first db) ∥₁)
-      ⊎ FindsTables g files (λ t. HoldsToldHouse was_first db × (t ≡ tables_after was_first db)))
-  upgrades_leave_the_tables run = (
-    run.begun.was_first,
-    λ db holds.
-        let is = run.begun.upgraded in
-        let told : IsHonest over_order run.given → HoldsToldHouse run.begun.was_first db = λ honest.
-        told_house run.begun.was_first db (shown_house run.given) (is.house honest)
-        (λ was. is.first refl honest was db holds) (λ was. is.kept refl honest was db holds) in
-        elim run.done [
-          | inl ended ↦ inl (
-            told (ended.kept clean).honest,
-            ∥∥₁_map ((ended.kept clean).left left outcome) (λ found.
-                let r : HoldsTables left (tables_after run.begun.was_first db) = record {
-                  db = found.0;
-                  holds = found.1;
-                  tables = sym (is.begun.only (ended.kept clean).honest (tables_held found.0) found.2
-                      ∙ is.found refl (ended.kept clean).honest db holds);
-                } in
-                r),
-          )
-          | inr not ↦ inr (finds_tables run.given is.begun not
-              (λ t. HoldsToldHouse run.begun.was_first db × (t ≡ tables_after run.begun.was_first db))
-              (λ honest. (told honest, is.found refl honest db holds)))
-        ],
-  )
+      (IsOver (IsEnded g) (IsLeft g)) files)
+      → (db : Trees) → HoldsDatabase image db
+      → (HoldsToldHouse run.begun.was_first db
+      × ∥ HoldsTables left (tables_after run.begun.was_first db) ∥₁)
+      ⊎ FindsTables g files (λ t. HoldsToldHouse run.begun.was_first db
+      × (t ≡ tables_after run.begun.was_first db))
+  upgrades_leave_the_tables run db holds =
+      let is = run.begun.upgraded in
+      let told : IsHonest over_order run.given → HoldsToldHouse run.begun.was_first db = λ honest.
+      told_house run.begun.was_first db (shown_house run.given) (is.house honest)
+      (λ was. is.first refl honest was db holds) (λ was. is.kept refl honest was db holds) in
+      elim run.done [
+        | inl ended ↦ inl (
+          told (ended.kept clean).honest,
+          ∥∥₁_map ((ended.kept clean).left left outcome) (λ found.
+              let r : HoldsTables left (tables_after run.begun.was_first db) = record {
+                db = found.0;
+                holds = found.1;
+                tables = sym (is.begun.only (ended.kept clean).honest (tables_held found.0) found.2
+                    ∙ is.found refl (ended.kept clean).honest db holds);
+              } in
+              r),
+        )
+        | inr not ↦ inr (finds_tables run.given is.begun not
+            (λ t. HoldsToldHouse run.begun.was_first db × (t ≡ tables_after run.begun.was_first db))
+            (λ honest. (told honest, is.found refl honest db holds)))
+      ]

@@ -6,7 +6,7 @@
 //! house in a file is such a run.
 #![tactic(auto)]
 
-ghost use Rattle.std.specs.Prelude.{◌≡◌, ◌⊎◌, ◌∷◌, ℕ, List, [], Bool};
+ghost use Rattle.std.specs.Prelude.{◌≡◌, ◌⊎◌, ◌∷◌, ℕ, List, []};
 ghost use Rattle.auction_runs.specs.Listed.{IsOrderedOver};
 ghost use Rattle.auction_runs.specs.Over.{IsOver, IsReadOver};
 ghost use Rattle.auction_runs.specs.Runs.{HasDone, IsMadeBy, IsServedOver, IsUpgradedAs, MayHaveSetTable};
@@ -198,11 +198,12 @@ pub fn makings_leave_no_history<D: Disk>()
 pub fn upgrades_leave_the_tables<D: Disk>()
     ensures { (image left : Image) (name : List ℕ) (files : Files D)
         → AreClean D.Disk files.log files.db → outcomes D.Disk files.log files.db left
-        → HasDone (IsUpgradedAs (IsUpgraded (content over_order) is_failed (IsHonest over_order)
+        → (run : HasDone (IsUpgradedAs (IsUpgraded (content over_order) is_failed (IsHonest over_order)
         (MayLeave over_order) shown_house name image name))
-        (IsOver (IsEnded D.Disk) (IsLeft D.Disk)) files
-        → (was_first : Bool) × ((db : Trees) → HoldsDatabase image db
-        → (HoldsToldHouse was_first db × ∥ HoldsTables left (tables_after was_first db) ∥₁)
-        ⊎ FindsTables D.Disk files (λ t. HoldsToldHouse was_first db
-        × (t ≡ tables_after was_first db))) }
+        (IsOver (IsEnded D.Disk) (IsLeft D.Disk)) files)
+        → (db : Trees) → HoldsDatabase image db
+        → (HoldsToldHouse run.begun.was_first db
+        × ∥ HoldsTables left (tables_after run.begun.was_first db) ∥₁)
+        ⊎ FindsTables D.Disk files (λ t. HoldsToldHouse run.begun.was_first db
+        × (t ≡ tables_after run.begun.was_first db)) }
 {}
