@@ -1,5 +1,5 @@
 -- What a new clock leaves of a numbered house.
-use Rattle.std.proofs.Common.{◌≡◌, ℕ, true, List, [], ◌∷◌, map, find, Option, Some, None, refl, ap, ◌∙◌, inl, inr, arith}
+use Rattle.std.proofs.Common.{◌≡◌, ℕ, true, not, List, [], ◌∷◌, map, filter, find, Option, Some, None, refl, ap, ◌∙◌, inl, inr, arith}
 use Rattle.std.specs.Prelude.{◌==◌, is_some, option_map, unwrap_or}
 use Rattle.sqlite.specs.Effect.{Database}
 use Rattle.house_rows.specs.Tables.{Tables}
@@ -7,7 +7,7 @@ use Rattle.house_rows.proofs.Put.{by_test}
 use Rattle.store_rows.specs.House.{SetsClock, with_clock}
 use Rattle.store_rows.specs.Rows.{houses_in}
 use Rattle.store_rows.specs.declared.house.HouseRow.{HouseRow}
-use Rattle.store_rows.specs.Tables.{IsNumbered, house_row_in, settings_in, tables_in, version_in}
+use Rattle.store_rows.specs.Tables.{IsNumbered, house_row_in, other_houses_in, settings_in, tables_in, version_in}
 
 -- a numbered house with these tables
 pub record Holds (t : Tables) (db : Database) : Type 0 where
@@ -39,6 +39,20 @@ pub clock_version : (moment : ℕ) (old new : Database) → SetsClock moment old
 clock_version moment old new w =
     ap (λ rows. option_map (λ (h : HouseRow). h.version) (find (λ h. h.id == 1) rows)) w.houses
     ∙ ap (option_map (λ (h : HouseRow). h.version)) (found_with_clock moment (houses_in old.trees)) ∙ same_version moment (find (λ h. h.id == 1) (houses_in old.trees))
+
+-- the rows of other numbers keep their clocks
+others_with_clock : (moment : ℕ) (rows : List HouseRow) → filter (λ h. not (h.id == 1)) (map (with_clock moment) rows) ≡ filter (λ h. not (h.id == 1)) rows
+others_with_clock moment [] = refl
+others_with_clock moment (h ∷ rows) =
+    elim (by_test (h.id == 1)) [
+      | inl is ↦ rw (is, is) (others_with_clock moment rows)
+      | inr other ↦ rw (other, other) (ap (λ (l : List HouseRow). h ∷ l) (others_with_clock moment rows))
+    ]
+
+-- so no row but the house's is another
+pub clock_others : (moment : ℕ) (old new : Database) → SetsClock moment old new → other_houses_in new.trees ≡ other_houses_in old.trees
+clock_others moment old new w =
+    ap (filter (λ (h : HouseRow). not (h.id == 1))) w.houses ∙ others_with_clock moment (houses_in old.trees)
 
 pub clock_set : (moment : ℕ) (old new : Database) → IsNumbered old.trees → SetsClock moment old new → Holds (record (tables_in old.trees) { clock = moment }) new
 unfolding house_row_in settings_in tables_in

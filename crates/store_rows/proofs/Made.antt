@@ -1,5 +1,5 @@
 -- What a write makes of the tables in the order of their keys, and that the house stays numbered.
-use Rattle.std.proofs.Common.{◌≡◌, ◌≤◌, ◌<◌, ◌+◌, ℕ, eqb, false, List, [], ◌∷◌, ◌++◌, find, length, map, refl, ap, ◌∙◌, arith, length-append}
+use Rattle.std.proofs.Common.{◌≡◌, ◌≤◌, ◌<◌, ◌+◌, ℕ, eqb, false, not, List, [], ◌∷◌, ◌++◌, filter, find, length, map, refl, ap, ◌∙◌, arith, length-append}
 use Rattle.std.specs.Prelude.{All, ◌==◌, option_map}
 use Rattle.std.proofs.lemmas.List.Elements.{All-push, All-weaker}
 use Rattle.sqlite.specs.Effect.{Database}
@@ -7,9 +7,9 @@ use Rattle.house_rows.specs.Tables.{Tables}
 use Rattle.store_rows.specs.declared.house.HouseRow.{HouseRow}
 use Rattle.store_rows.specs.House.{IsHouse, KeepsOthers, SetsClock}
 use Rattle.store_rows.specs.Rows.{house_in, reserve_in, reserves_in}
-use Rattle.store_rows.specs.Tables.{IsNumbered, editions_in, house_row_in, settings_in, tables_in, version_in}
+use Rattle.store_rows.specs.Tables.{IsNumbered, editions_in, house_row_in, other_houses_in, settings_in, tables_in, version_in}
 use Rattle.store_rows.specs.Sorted.{sorted_bids, sorted_feedback, sorted_questions, sorted_watches}
-use Rattle.store_rows.proofs.Clock.{clock_set, clock_version}
+use Rattle.store_rows.proofs.Clock.{clock_others, clock_set, clock_version}
 
 -- the house that a write leaves, and its tables
 pub record Makes (make : Tables → Tables) (old new : Database) : Type 0 where
@@ -64,6 +64,17 @@ same_version tree old new over others =
 -- and so does the clock after it
 pub version_then_clock : (tree moment : ℕ) (old mid new : Database) → 0 < tree → KeepsOthers tree old mid → SetsClock moment mid new → version_in new.trees ≡ version_in old.trees
 version_then_clock tree moment old mid new over others clock = clock_version moment mid new clock ∙ same_version tree old mid over others
+
+-- ---- the other rows of the house's table
+
+-- a write of a table after the house's leaves them
+pub same_houses : (tree : ℕ) (old new : Database) → 0 < tree → KeepsOthers tree old new → other_houses_in new.trees ≡ other_houses_in old.trees
+same_houses tree old new over others =
+    ap (λ rows. filter (λ (h : HouseRow). not (h.id == 1)) (map house_in rows)) (others.0 (λ e. absurd (omega (arith, over, e))))
+
+-- and so does the clock after it
+pub houses_then_clock : (tree moment : ℕ) (old mid new : Database) → 0 < tree → KeepsOthers tree old mid → SetsClock moment mid new → other_houses_in new.trees ≡ other_houses_in old.trees
+houses_then_clock tree moment old mid new over others clock = clock_others moment mid new clock ∙ same_houses tree old mid over others
 
 -- ---- the editions
 

@@ -1,5 +1,5 @@
 -- The tables of the house that a database holds.
-use Rattle.std.specs.Prelude.{◌≡◌, ◌≤◌, ◌+◌, ◌==◌, true, ℕ, List, [], ◌∷◌, ◌++◌, Option, Some, None, map, filter, find, length, All, is_some, option_map, unwrap_or, IsTrue}
+use Rattle.std.specs.Prelude.{◌≡◌, ◌≤◌, ◌+◌, ◌==◌, not, true, ℕ, List, [], ◌∷◌, ◌++◌, Option, Some, None, map, filter, find, length, All, is_some, option_map, unwrap_or, IsTrue}
 use Rattle.steps.specs.Table.{Band}
 use Rattle.sqlite_trees.specs.Tree.{Trees}
 use Rattle.sqlite.specs.Effect.{Database}
@@ -26,6 +26,10 @@ house_row_in db = unwrap_or (find (λ h. h.id == 1) (houses_in db)) (record { id
 -- the version of the tables, as the row of the house gives it
 abbrev pub version_in : Trees → Option ℕ
 version_in db = option_map (λ h. h.version) (find (λ h. h.id == 1) (houses_in db))
+
+-- the other rows of its table: an opening and every look-up pass them over
+abbrev pub other_houses_in : Trees → List HouseRow
+other_houses_in db = filter (λ h. not (h.id == 1)) (houses_in db)
 
 unfoldable pub settings_in : Trees → Settings
 settings_in db = record {
@@ -110,5 +114,6 @@ pub record Changes (change : Change) (old new : Database) : Type 0 where
   pub schema : new.schema ≡ old.schema
   pub numbered : IsNumbered new.trees
   pub version : version_in new.trees ≡ version_in old.trees
+  pub other_houses : other_houses_in new.trees ≡ other_houses_in old.trees
   pub tables : tables_in new.trees ≡ changed (tables_in old.trees) change
   pub reserves : reserves_in new.trees ≡ reserves_after (reserves_in old.trees) (length (items_in old.trees) + 1) change

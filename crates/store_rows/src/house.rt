@@ -1,4 +1,5 @@
-//! The table of the house itself, which has one row.
+//! The table of the house itself, whose row 1 is the house's. A new house has no other row, and no
+//! change writes one: `other_houses` of `Changes`.
 ghost use Rattle.std.specs.Prelude.{◌≡◌, ◌==◌, ◌<◌, ◌^◌, find, option_map, IfOk, OnOk, IsErrOf, IfSome};
 ghost use Rattle.sqlite.specs.State.{HasCleanDisk, Survives};
 ghost use Rattle.sqlite.specs.Held.{state};

@@ -19,9 +19,9 @@ use Rattle.store_items.specs.Items.{AddsItem}
 use Rattle.store_selling.specs.Listed.{AddsListing}
 use Rattle.store_rows.specs.Reserves.{AddsReserve}
 use Rattle.store_rows.specs.ItemRows.{item_row_in, items_in}
-use Rattle.store_rows.specs.Tables.{IsNumbered, Changes, house_row_in, settings_in, tables_in, version_in, with_reserve}
-use Rattle.store_rows.proofs.Clock.{clock_version}
-use Rattle.store_rows.proofs.Made.{Makes, makes_both, other, all_below, still_numbered, same_reserves, same_version, sets_clock}
+use Rattle.store_rows.specs.Tables.{IsNumbered, Changes, house_row_in, other_houses_in, settings_in, tables_in, version_in, with_reserve}
+use Rattle.store_rows.proofs.Clock.{clock_others, clock_version}
+use Rattle.store_rows.proofs.Made.{Makes, makes_both, other, all_below, still_numbered, same_houses, same_reserves, same_version, sets_clock}
 use Rattle.store_items.proofs.Reserves.{kept_reserves, no_amount}
 use Rattle.store_selling.proofs.Sealed.{all_sealed, none_sealed, seal}
 
@@ -62,6 +62,7 @@ adds_item row old new was next none w =
         later_bands = rw (es, ls) was.later_bands;
       };
       version = same_version 6 old new (omega arith) w.others;
+      other_houses = same_houses 6 old new (omega arith) w.others;
       tables = rw (h, b, m, k, d, v, q, f, es, ls, rows) refl;
       reserves = same ∙ ap (λ (o : Option ℕ). with_reserve row.item.terms.item o (reserves_in old.trees)) (sym none);
     }
@@ -128,6 +129,7 @@ adds_reserved number amount item old mid new was next one two =
         later_bands = rw (es, ls) put.numbered.later_bands;
       };
       version = same_version 23 mid new (omega arith) two.others ∙ put.version;
+      other_houses = same_houses 23 mid new (omega arith) two.others ∙ put.other_houses;
       tables = rw (h, b, m, k, d, v, q, f, es, ls, items) (ap (λ (t : Tables). record t { items = items_in old.trees ++ new_item number (record item { reserve = Some amount }) ∷ [] }) put.tables);
       reserves = more ∙ ap (λ (l : List ReserveRow). l ++ x ∷ []) same;
     }
@@ -145,14 +147,16 @@ module _ (number moment : ℕ) (item : NewItem) (old mid new : Database) where
   with_next : number ≡ length (tables_in old.trees).items + 1
       → Makes (λ t. record t { clock = moment; items = t.items ++ new_item number item ∷ [] }) old new
       → version_in new.trees ≡ version_in old.trees
+      → other_houses_in new.trees ≡ other_houses_in old.trees
       → reserves_in new.trees ≡ with_reserve number item.reserve (reserves_in old.trees)
       → Changes (Listed moment item) old new
   unfolding changed
-  with_next next it version sealed = record {
+  with_next next it version others sealed = record {
     house = it.house;
     schema = it.schema;
     numbered = it.numbered;
     version = version;
+    other_houses = others;
     tables = subst (λ (n : ℕ). tables_in new.trees ≡ record (tables_in old.trees) {
       clock = moment;
       items = (tables_in old.trees).items ++ new_item n item ∷ [];
@@ -167,4 +171,4 @@ module _ (number moment : ℕ) (item : NewItem) (old mid new : Database) where
       let put : Makes (λ t. record t { items = t.items ++ new_item number item ∷ [] }) old mid = record { house = one.house; schema = one.schema; numbered = one.numbered; tables = one.tables } in
       let it = makes_both _ _ old mid new put (sets_clock moment mid new put.numbered two) in
       with_next (next ∙ ap (λ n. n + 1) same_items) (record { house = it.house; schema = it.schema; numbered = it.numbered; tables = it.tables })
-      (clock_version moment mid new two ∙ one.version) (same_reserves 0 mid new (omega arith) two.others ∙ one.reserves)
+      (clock_version moment mid new two ∙ one.version) (clock_others moment mid new two ∙ one.other_houses) (same_reserves 0 mid new (omega arith) two.others ∙ one.reserves)
