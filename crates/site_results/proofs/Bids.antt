@@ -1,9 +1,7 @@
 -- The result of a bid: the standing of its item after it.
-use Rattle.std.proofs.Common.{◌≡◌, ℕ, List, true, refl, ◌∙◌, ap, subst, sym, Some}
+use Rattle.std.proofs.Common.{◌≡◌, ℕ, List, true, refl, ◌∙◌, ap, sym, Some}
 use Rattle.std.specs.Prelude.{Result, IfOk, ◌==◌}
-use Rattle.proxy.specs.Bids.{floor, one_more, standing_of}
-use Rattle.proxy.specs.Opening.{Opening}
-use Rattle.proxy.specs.Kept.{Kept, opening_of}
+use Rattle.proxy.specs.Kept.{Kept}
 use Rattle.proxy.specs.declared.bid.Bid as bid
 use Rattle.house.specs.Decided.{IsAccepted}
 use Rattle.house.specs.Own.{IsOf}
@@ -19,11 +17,11 @@ use Rattle.house_rows.specs.Changed.{changed, is_item, with_standing}
 use Rattle.house_rows.specs.Found.{row_at}
 use Rattle.house_rows.specs.History.{History}
 use Rattle.house_rows.specs.Items.{shown}
-use Rattle.house_rows.specs.Tables.{ItemRow, Tables, bands_for, edition_for, row_opening, tables_of}
+use Rattle.house_rows.specs.Tables.{ItemRow, Tables, bands_for, edition_for, tables_of}
 use Rattle.house_rows.specs.CommandResult.{placed_result}
-use Rattle.house_rows.proofs.AcceptedBids.{floor_is}
 use Rattle.house_rows.proofs.ChangedRows.{standing_number, there_is, there_numbered}
 use Rattle.house_rows.proofs.Shown.{shown_row}
+use Rattle.site_results.specs.ByTables.{kept_floor}
 use Rattle.site_results.proofs.Seen.{IsReported, accepted_as, ok_as, row_changed, seen_after, report_as}
 
 -- the row of the item after the bid
@@ -33,52 +31,38 @@ unfolding changed
 row_after t at' i placed kept row found = row_changed i (with_standing i kept) row t.items (λ r. ap (λ n. n == i) (standing_number i kept r)) found
 
 -- what its row says
-placed_now : (edition : ℕ) (bands : List (ℕ × ℕ)) (i : ℕ) (kept : Kept) (row : ItemRow) (opening : Opening) (bids : List bid.Bid) → is_item i row ≡ true → row.item.terms.state ≡ Open
-    → row.item.terms.start ≡ opening.start → kept ≡ standing_of bands opening bids
-    → placed_result (Some (shown edition bands (with_standing i kept row).item)) ≡ Placed kept.count (floor bands opening bids) kept.leader kept.price
-placed_now edition bands i kept row opening bids here opened same is_consistent =
-    rw (here, opened, same, is_consistent) (rw (floor_is bands opening bids) refl)
+placed_now : (edition : ℕ) (bands : List (ℕ × ℕ)) (i : ℕ) (kept : Kept) (row : ItemRow) → is_item i row ≡ true → row.item.terms.state ≡ Open
+    → row.item.terms.start ≡ kept.start
+    → placed_result (Some (shown edition bands (with_standing i kept row).item)) ≡ Placed kept.count (kept_floor bands kept) kept.leader kept.price
+placed_now edition bands i kept row here opened same = rw (here, opened, same) refl
 
 -- by the band table of its number
-placed_by : (t : Tables) (i : ℕ) (kept : Kept) (row : ItemRow) (opening : Opening) (bids : List bid.Bid) → row_at t i ≡ Some row → row.item.terms.state ≡ Open
-    → row.item.terms.start ≡ opening.start → kept ≡ standing_of (bands_for t i) opening bids
-    → placed_result (Some (shown_row t (with_standing i kept row))) ≡ Placed kept.count (floor (bands_for t i) opening bids) kept.leader kept.price
-placed_by t i kept row opening bids there opened same is_consistent =
+placed_by : (t : Tables) (i : ℕ) (kept : Kept) (row : ItemRow) → row_at t i ≡ Some row → row.item.terms.state ≡ Open
+    → row.item.terms.start ≡ kept.start
+    → placed_result (Some (shown_row t (with_standing i kept row))) ≡ Placed kept.count (kept_floor (bands_for t i) kept) kept.leader kept.price
+placed_by t i kept row there opened same =
     let numbered : (with_standing i kept row).item.terms.item ≡ i = standing_number i kept row ∙ there_numbered t i row there in
     ap (λ (n : ℕ). placed_result (Some (shown (edition_for t n) (bands_for t n) (with_standing i kept row).item))) numbered
-    ∙ placed_now (edition_for t i) (bands_for t i) i kept row opening bids (there_is t i row there) opened same is_consistent
+    ∙ placed_now (edition_for t i) (bands_for t i) i kept row (there_is t i row there) opened same
 
--- a standing that a bid leaves is one of bids, and the result is what it says of them
-record IsTelling (settings : Settings) (h : History) (moment caller i maximum : ℕ) (kept : Kept) : Type 0 where
-  bids : List bid.Bid
-  is_consistent : kept ≡ standing_of (bands_for (tables_of settings h) i) (opening_of kept) bids
-  tells : IsReported settings h moment caller (command.Bid i maximum) (Placed kept.count (floor (bands_for (tables_of settings h) i) (opening_of kept) bids) kept.leader kept.price)
-
+-- the result is what the standing after the bid says
 telling : (settings : Settings) (h : History) (moment caller at' i : ℕ) (placed : bid.Bid) (kept : Kept)
-    → IsAccepted settings h moment caller (command.Bid i placed.maximum) (change.Bid at' i placed kept) → IsTelling settings h moment caller i placed.maximum kept
+    → IsAccepted settings h moment caller (command.Bid i placed.maximum) (change.Bid at' i placed kept)
+    → IsReported settings h moment caller (command.Bid i placed.maximum) (Placed kept.count (kept_floor (bands_for (tables_of settings h) i) kept) kept.leader kept.price)
 unfolding changed
 telling settings h moment caller at' i placed kept is =
     let fits = is.fits in
-    let bids : List bid.Bid = one_more fits.bids placed.member placed.maximum in
     let start : fits.row.item.terms.start ≡ kept.start = sym (ap (λ (k : Kept). k.start) fits.is_consistent_after) in
-    let opening : row_opening fits.row ≡ opening_of kept = sym (ap opening_of fits.is_consistent_after) in
-    let bands : List (ℕ × ℕ) = bands_for (tables_of settings h) i in
-    let is_consistent : kept ≡ standing_of bands (opening_of kept) bids = subst (λ (o : Opening). kept ≡ standing_of bands o bids) opening fits.is_consistent_after in
     let now = row_after (tables_of settings h) at' i placed kept fits.row fits.row_there in
-    record {
-      bids = bids;
-      is_consistent = is_consistent;
-      tells =
-          sym (placed_by (tables_of settings h) i kept fits.row (opening_of kept) bids fits.row_there fits.is_open start is_consistent)
-          ∙ ap placed_result (sym (seen_after settings h moment caller i (command.Bid i placed.maximum) (change.Bid at' i placed kept) (with_standing i kept fits.row) is now));
-    }
+    sym (placed_by (tables_of settings h) i kept fits.row fits.row_there fits.is_open start)
+    ∙ ap placed_result (sym (seen_after settings h moment caller i (command.Bid i placed.maximum) (change.Bid at' i placed kept) (with_standing i kept fits.row) is now))
 
 pub bid_reported : (t : Tables) (settings : Settings) (h : History) (moment caller : ℕ) (k : Command) (result : Result CommandResult KeepFault) (at' i : ℕ) (placed : bid.Bid) (kept : Kept) → t ≡ tables_of settings h
     → IsAccepted settings h moment caller k (change.Bid at' i placed kept) → IsOf moment caller k (change.Bid at' i placed kept)
-    → ((bids : List bid.Bid) → kept ≡ standing_of (bands_for t i) (opening_of kept) bids → IfOk result (λ r. r ≡ Placed kept.count (floor (bands_for t i) (opening_of kept) bids) kept.leader kept.price))
+    → IfOk result (λ r. r ≡ Placed kept.count (kept_floor (bands_for t i) kept) kept.leader kept.price)
     → IfOk result (IsReported settings h moment caller k)
 bid_reported t settings h moment caller k result at' i placed kept e is own value =
-    let known = telling settings h moment caller at' i placed kept (accepted_as settings h moment caller (command.Bid i placed.maximum) k (change.Bid at' i placed kept) own.same_command is) in
-    ok_as (λ r. r ≡ Placed kept.count (floor (bands_for (tables_of settings h) i) (opening_of kept) known.bids) kept.leader kept.price) (IsReported settings h moment caller k) result
-    (λ r v. report_as settings h moment caller (command.Bid i placed.maximum) k r own.same_command (v ∙ known.tells))
-    ((rw e at value) known.bids known.is_consistent)
+    let own_bid = accepted_as settings h moment caller (command.Bid i placed.maximum) k (change.Bid at' i placed kept) own.same_command is in
+    ok_as (λ r. r ≡ Placed kept.count (kept_floor (bands_for (tables_of settings h) i) kept) kept.leader kept.price) (IsReported settings h moment caller k) result
+    (λ r v. report_as settings h moment caller (command.Bid i placed.maximum) k r own.same_command (v ∙ telling settings h moment caller at' i placed kept own_bid))
+    (rw e at value)

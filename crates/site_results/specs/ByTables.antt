@@ -1,8 +1,7 @@
 -- The result of a change, by the tables that it is made to.
-use Rattle.std.specs.Prelude.{◌≡◌, ◌<◌, ◌+◌, ◌-◌, ℕ, List, ◌∷◌, IfOk, Result, Option, Some, None, length, true, false}
-use Rattle.proxy.specs.Bids.{floor, standing_of}
-use Rattle.proxy.specs.Kept.{opening_of}
-use Rattle.proxy.specs.declared.bid.Bid.{Bid}
+use Rattle.std.specs.Prelude.{◌≡◌, ◌<◌, ◌+◌, ◌-◌, ◌==◌, if◌then◌else◌, ℕ, List, ◌∷◌, IfOk, Result, Option, Some, None, length, true, false}
+use Rattle.steps.specs.Table.{Band, over}
+use Rattle.proxy.specs.Kept.{Kept}
 use Rattle.settle.specs.Fee.{fee_of}
 use Rattle.house.specs.Decided.{IsAccepted}
 use Rattle.house.specs.Own.{IsOf}
@@ -21,6 +20,11 @@ use Rattle.house_rows.specs.Found.{due_at, terms_at}
 use Rattle.house_rows.specs.Limits.{most_categories, most_editions, most_items, most_members}
 use Rattle.house_rows.specs.Tables.{Tables, bands_for}
 
+-- the floor that a standing leaves, whether or not bids left it: the start with no bid, else one step
+-- over the price
+abbrev pub kept_floor : List Band → Kept → ℕ
+kept_floor bands kept = if kept.count == 0 then kept.start else over bands kept.price
+
 -- of a settlement: the price of a sale with these terms, in its two parts by the rate, and nothing of
 -- an item that isn't there
 abbrev pub settled_by : ℕ → ℕ → Option Terms → CommandResult
@@ -38,9 +42,8 @@ IsResultBy t (change.AddCategory moment name) result =
 IsResultBy t (change.List moment item) result =
     length t.items < most_items → result ≡ told.Listing (length t.items + 1)
 IsResultBy t (change.Bid moment item placed standing) result =
-    (bids : List Bid) → standing ≡ standing_of (bands_for t item) (opening_of standing) bids
-    → result ≡ told.Placed standing.count (floor (bands_for t item) (opening_of standing) bids)
-    standing.leader standing.price
+    result ≡ told.Placed standing.count (kept_floor (bands_for t item) standing) standing.leader
+    standing.price
 IsResultBy t (change.Buy moment item buyer price) result = result ≡ told.Bought item price
 IsResultBy t (change.Close moment) result =
     result ≡ told.Closed (due_at t moment).sold (due_at t moment).unsold
