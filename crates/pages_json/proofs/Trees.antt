@@ -1,19 +1,10 @@
 -- Objects and lists in memory, member by member and entry by entry.
-use Rattle.std.proofs.Common.{◌≡◌, ◌<◌, ◌≤◌, ◌+◌, ℕ, List, [], ◌∷◌, ◌++◌, map, drop, length, get_or, refl, ap, ◌∙◌, sym, append_assoc, append-nil}
-use Rattle.std.proofs.lemmas.List.{at_drop_more, at_drop_all}
+use Rattle.std.proofs.Common.{◌≡◌, ◌<◌, ◌≤◌, ◌+◌, ℕ, List, [], ◌∷◌, ◌++◌, map, drop, take, length, get_or, refl, ap, ◌∙◌, sym, append_assoc, append-nil}
+use Rattle.std.proofs.lemmas.List.{at_drop_more, at_drop_all, map_more, take_all}
 use Rattle.serde_json.specs.Data.{Data, Members, no_members, object, put}
 use Rattle.serde_json.specs.View.{view}
 use Rattle.serde_json.specs.declared.value.Value.{Value}
 use Rattle.pages_json.specs.Words.{AreInOrder, object_of, put_all}
-
-pub put_step : {A : Type 0} (pair_of : A → List ℕ × Data) (all now next : Members) (xs : List A) (i : ℕ) (d : A) → i < length xs
-    → put_all (map pair_of (drop i xs)) now ≡ all → next ≡ put (pair_of (get_or xs i d)).0 (pair_of (get_or xs i d)).1 now
-    → put_all (map pair_of (drop (i + 1) xs)) next ≡ all
-put_step pair_of all now next xs i d lt so_far is =
-    ap (put_all (map pair_of (drop (i + 1) xs))) is ∙ sym (at_drop_more (λ ys. put_all (map pair_of ys) now) xs i d lt) ∙ so_far
-
-pub put_done : {A : Type 0} (pair_of : A → List ℕ × Data) (all now : Members) (xs : List A) (i : ℕ) → length xs ≤ i → put_all (map pair_of (drop i xs)) now ≡ all → now ≡ all
-put_done pair_of all now xs i le so_far = sym (at_drop_all (λ ys. put_all (map pair_of ys) now) xs i le) ∙ so_far
 
 views_append : (vs : List Value) (v : Value) → map view (vs ++ v ∷ []) ≡ map view vs ++ view v ∷ []
 views_append [] v = refl
@@ -34,6 +25,20 @@ trees_done tree_of all now xs i le so_far = sym (append-nil (map view now)) ∙ 
 put_append : (a b : List (List ℕ × Data)) (found : Members) → put_all (a ++ b) found ≡ put_all b (put_all a found)
 put_append [] b found = refl
 put_append (m ∷ a) b found = put_append a b (put m.0 m.1 found)
+
+-- one member more is put
+pub more_put : {A : Type 0} (pair_of : A → List ℕ × Data) (old now next : Members) (xs : List A) (i : ℕ) (d : A) → i < length xs
+    → now ≡ put_all (map pair_of (take i xs)) old → next ≡ put (pair_of (get_or xs i d)).0 (pair_of (get_or xs i d)).1 now
+    → next ≡ put_all (map pair_of (take (i + 1) xs)) old
+more_put pair_of old now next xs i d lt so_far is =
+    let one : List (List ℕ × Data) = pair_of (get_or xs i d) ∷ [] in
+    is ∙ ap (put (pair_of (get_or xs i d)).0 (pair_of (get_or xs i d)).1) so_far
+    ∙ sym (ap (λ ms. put_all ms old) (map_more pair_of xs i d lt) ∙ put_append (map pair_of (take i xs)) one old)
+
+-- at the end all are put
+pub all_put : {A : Type 0} (pair_of : A → List ℕ × Data) (old now : Members) (xs : List A) (i : ℕ) → length xs ≤ i
+    → now ≡ put_all (map pair_of (take i xs)) old → now ≡ put_all (map pair_of xs) old
+all_put pair_of old now xs i le so_far = so_far ∙ ap (λ ys. put_all (map pair_of ys) old) (take_all i xs le)
 
 -- an object in three parts
 pub put_parts : (a b c : List (List ℕ × Data)) (found : Members) → put_all c (put_all b (put_all a found)) ≡ put_all (a ++ (b ++ c)) found

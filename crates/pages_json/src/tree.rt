@@ -1,5 +1,5 @@
 //! Objects and lists as trees in memory.
-ghost use Rattle.std.specs.Prelude.{◌≡◌, ◌∷◌, ◌++◌, ℕ, [], IfOk, IsTrue, OnErr, OnOk, drop, map};
+ghost use Rattle.std.specs.Prelude.{◌≡◌, ◌∷◌, ◌++◌, ℕ, [], IfOk, IsTrue, OnErr, OnOk, map, take};
 ghost use Rattle.serde_json.specs.View.{members_view, view};
 ghost use Rattle.pages_json.specs.Fields.{are_keys, field_tree, member_of};
 ghost use Rattle.pages_json.specs.Words.{AreInOrder, array_of, is_key, name_in, object_of, put_all};
@@ -39,8 +39,8 @@ fn name_in(key: &str) -> &str
     &key[2..key.len() - 2]
 }
 
-/// Puts these members into a map. After an `Err` some are put, up to one of them: with the others all
-/// would be there.
+/// Puts these members into a map, one after the other. After an `Err` those before one of them are
+/// put, and nothing else has changed.
 pub fn grow_members(
     alloc: Global,
     members: &mut Map<String, Value>,
@@ -50,8 +50,8 @@ pub fn grow_members(
     ensures ok { OnOk result (members_view members.new.entries
         ≡ put_all (map member_of fields.now) (members_view members.old.entries)) }
     ensures err { OnErr result ((place : ℕ)
-        × (put_all (map member_of (drop place fields.now)) (members_view members.new.entries)
-        ≡ put_all (map member_of fields.now) (members_view members.old.entries))) }
+        × (members_view members.new.entries
+        ≡ put_all (map member_of (take place fields.now)) (members_view members.old.entries))) }
 {
     for field in fields {
         let value = grow_value(alloc, &field.1)?;
@@ -60,7 +60,7 @@ pub fn grow_members(
     Ok(())
 }
 
-/// Puts a member that is a list into a map.
+/// Puts a member that is a list into a map. After an `Err` the map is as it was.
 pub fn grow_member_list<E, F: Grows<E>>(
     alloc: Global,
     members: &mut Map<String, Value>,
@@ -68,9 +68,10 @@ pub fn grow_member_list<E, F: Grows<E>>(
     form: &F,
     entries: &[E],
 ) -> Result<(), AllocError>
-    ensures { OnOk result (members_view members.new.entries
+    ensures ok { OnOk result (members_view members.new.entries
         ≡ put_all ((name.now, array_of (F.tree form.now) entries.now) ∷ [])
         (members_view members.old.entries)) }
+    ensures err { OnErr result (members.new.entries ≡ members.old.entries) }
 {
     let list = grow_array(alloc, form, entries)?;
     put(members, alloc, name, list)

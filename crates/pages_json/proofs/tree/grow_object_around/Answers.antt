@@ -10,4 +10,4 @@ pub returns : goal.returns
 returns g c =
     view-Object c.grow_members-2.new.members
     ∙ parts_grown (map member_of c.args.front.now) ((c.args.name.now, array_of (g.F.Shows.tree c.args.form.now) c.args.entries.now) ∷ []) (map member_of c.args.back.now) _ _ _ _
-    (ap members_view c.new-members.ensures.empty) c.in_ok-grow_members.ensures.ok c.in_ok-grow_member_list.ensures c.in_ok-grow_members-2.ensures.ok c.requires.order
+    (ap members_view c.new-members.ensures.empty) c.in_ok-grow_members.ensures.ok c.in_ok-grow_member_list.ensures.ok c.in_ok-grow_members-2.ensures.ok c.requires.order
