@@ -11,8 +11,8 @@ ghost use Rattle.house_views.specs.Views.{HaveSameRows, HaveSameView, ViewRowsFi
 use crate::tables::{have_same_open, have_same_rows};
 use house_rows::{Keep, KeepFault};
 
-/// Whether everybody may see the same in both, over tables of the same settings. Rows are asked for
-/// list by list, and the first list that differs is the last that is asked for.
+/// Whether everybody may see the same in both, over tables of the same settings. That every public
+/// row fits, in both, is enough for it not to be damaged.
 pub fn have_same_public<K: Keep>(left: &mut K, right: &mut K) -> Result<bool, KeepFault>
     ensures tables { Compares K.Keep left.old left.new right.old right.new result
         (λ t u same. (same ≡ true) ↔ HaveSameRows t u) PublicRowsFit }
