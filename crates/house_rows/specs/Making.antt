@@ -31,8 +31,9 @@ ChangeRowsFit t (change.Feedback moment item from to rating text) =
     FeedbackFitsFrom from t
 ChangeRowsFit t (change.SetBands moment bands) = length t.items ≤ most_items
 
--- Store comes exactly where the keep is failed as the call ends. Damaged comes only where a row that
--- the change takes doesn't fit, or where its new key is taken; and after Ok it was free
+-- Store comes exactly where the keep is failed as the call ends. Of a change that fits the tables
+-- Damaged comes only where a row that it takes doesn't fit, or where its new key is taken; and after
+-- Ok that was free
 pub record ChangeFaults (result : Result (Unit {0}) KeepFault) (is_honest : Type 0)
     (is_failed : Bool) (content : Tables) (change : Change) : Type 0 where
   pub store : IsErrOf result Store ↔ (is_failed ≡ true)

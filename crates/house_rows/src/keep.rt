@@ -310,9 +310,9 @@ pub trait Keep {
         ensures apart { IfOk result (λ v. AllPairs (λ a b. a.item ≢ b.item) v.items) }
         ensures few { IfOk result (λ v. length v.items ≤ most_items) };
 
-    /// Makes a change, whole or not at all. Damaged is answered only where a row that the change
-    /// takes doesn't fit, whatever else is wrong with the tables, or where the new key of a change
-    /// other than a watch is taken.
+    /// Makes a change, whole or not at all. Of a change that fits the tables Damaged is answered
+    /// only where a row that it takes doesn't fit, whatever else is wrong with the tables, or where
+    /// the new key of a change other than a watch is taken.
     fn apply(&mut self, change: &Change<'_>) -> Result<(), KeepFault>
         requires fits { is_honest self.old → AreSound (content self.old)
             → ChangeFits (content self.old) change.now }

@@ -23,7 +23,8 @@ pub const MOST_QUESTIONS: u32 = 20;
 /// The most rows of a list that begins at a number.
 pub const MOST_SHOWN: usize = 50;
 
-/// The limits are these numbers. Everywhere else definitions and clauses have them by name.
+/// The limits are these numbers. Definitions of this crate and of `house` have them by name; in the
+/// crates below, as in the rule of bids in `proxy`, and in some above, one may stand as a number.
 pub fn limits_are_these_numbers()
     ensures moment { last_moment ≡ 4102444800 }
     ensures cents { most_cents ≡ 1000000000 }

@@ -19,14 +19,15 @@ pub struct Category {
     pub name: Text,
 }
 
-/// How many of each the house has.
+/// How many of each the house has. In sound tables, as those of a history are, they are at most
+/// `MOST_MEMBERS`, `MOST_CATEGORIES` and `MOST_ITEMS`.
 #[derive(Clone, Copy)]
 pub struct Counts {
-    /// At most 100000.
+    /// Members.
     pub members: u32,
-    /// At most 1000.
+    /// Categories.
     pub categories: u32,
-    /// At most 1000000.
+    /// Items.
     pub items: u32,
 }
 
