@@ -153,7 +153,8 @@ fn placing_fault<S: Alter>(
 /// Places a bid on an item, which then has the given standing. The moment is in seconds since
 /// 1970-01-01T00:00:00Z, the band tables are those of the house. What was seen of the item last is
 /// not looked up again. Damaged where the bid's number is taken, where there is no such item, where
-/// its row or the standing doesn't fit, or where the moment has more than 32 bits.
+/// its terms don't fit or aren't consistent, where the standing has another start or reserve than
+/// the item or amounts that don't go together, or where the moment has more than 32 bits.
 pub fn bid<S: Alter>(
     conn: &mut Connection<S>,
     rules: &Rules,

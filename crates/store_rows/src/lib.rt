@@ -1,10 +1,10 @@
 //! What every table of a house in SQLite needs: the schema, typed rows, statements and their frames.
 //!
-//! Promised: nineteen statements leave an empty house, and the last three of them one of version 1 with
-//! its rows; a statement that is run here leaves what its text says, or nothing, and its rows are read
-//! as the rows of the house that they are, wherever the disk was honest. `specs/Tables.antt` says which
-//! tables a database holds. Reserves, which are sealed, are rows here too, and readers of items go by
-//! the `Rules`, which hold them with the band tables.
+//! Promised: twenty statements leave an empty house, and the last four of them one of version 1
+//! with its rows; a statement that is run here leaves what its text says, or nothing, and its rows
+//! are read as the rows of the house that they are, wherever the disk was honest.
+//! `specs/Tables.antt` says which tables a database holds. Reserves, which are sealed, are rows here
+//! too, and readers of items go by the `Rules`, which hold them with the band tables.
 //! Read `specs/Schema.antt` first, then `specs/Rows.antt`, `specs/House.antt` and `specs/Tables.antt`.
 #![tactic(auto)]
 

@@ -28,7 +28,7 @@ use std::alloc::Global;
 use store_items::{due_terms, set_closed};
 use store_rows::{Rules, commit, set_clock, stored_moment};
 
-// The items that are due, whose rows fit and are consistent.
+// The items that are due, whose terms fit and are consistent.
 fn find_due<S: Alter>(
     alloc: Global,
     conn: &mut Connection<S>,
@@ -87,8 +87,8 @@ fn write_close<S: Alter>(
 
 /// Closes every open item whose end is at or before the moment: sold where somebody leads and no
 /// reserve is unmet, else unsold. The moment is in seconds since 1970-01-01T00:00:00Z, the band
-/// tables and the reserves are those of the house. Damaged where the row of an item that is due
-/// doesn't fit, or where the moment has more than 32 bits.
+/// tables and the reserves are those of the house. Damaged where the terms of an item that is due
+/// don't fit or aren't consistent, or where the moment has more than 32 bits.
 pub fn close<S: Alter>(
     conn: &mut Connection<S>,
     rules: &Rules,

@@ -83,7 +83,7 @@ fn write_purchase<S: Alter>(
 /// Sells an item at once for its buy-now price. The moment is in seconds since
 /// 1970-01-01T00:00:00Z, the band tables are those of the house. What was seen of the item last is
 /// not looked up again. Damaged where there is no such item, where somebody has bid on it, where its
-/// row doesn't fit, or where the moment has more than 32 bits.
+/// terms don't fit or aren't consistent, or where the moment has more than 32 bits.
 pub fn buy<S: Alter>(
     conn: &mut Connection<S>,
     rules: &Rules,

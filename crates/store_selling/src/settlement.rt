@@ -65,8 +65,8 @@ fn write_settlement<S: Alter>(
 
 /// Settles the sale of an item. The moment is in seconds since 1970-01-01T00:00:00Z, the band
 /// tables are those of the house. What was seen of the item last is not looked up again. Damaged
-/// where there is no such item, where its row doesn't fit, or where the moment has more than 32
-/// bits.
+/// where there is no such item, where its terms don't fit or aren't consistent, or where the moment
+/// has more than 32 bits.
 pub fn settle<S: Alter>(
     conn: &mut Connection<S>,
     rules: &Rules,
