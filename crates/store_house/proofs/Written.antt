@@ -8,7 +8,7 @@ use Rattle.house_rows.specs.declared.people.Member.{Member}
 use Rattle.store_rows.specs.House.{AddsCategory, AddsMember, SetsClock}
 use Rattle.store_rows.specs.Rows.{members_in, categories_in}
 use Rattle.store_rows.specs.Tables.{IsNumbered, Changes, house_row_in, settings_in, tables_in}
-use Rattle.store_rows.proofs.Made.{Makes, houses_then_clock, makes_both, other, all_below, still_numbered, same_reserves, sets_clock, version_then_clock}
+use Rattle.store_rows.proofs.Made.{Makes, houses_then_clock, makes_both, other, all_below, still_numbered, same_later_bands, same_reserves, sets_clock, version_then_clock}
 
 pub adds_member : (number : ℕ) (name : List ℕ) (old new : Database) → IsNumbered old.trees → number ≡ length (members_in old.trees) + 1 → AddsMember number name old new
     → Makes (λ t. record t { members = t.members ++ record { member = length t.members + 1; name = name } ∷ [] }) old new
@@ -80,7 +80,7 @@ unfolding changed
 registers number moment name old mid new was next one two =
     let put = adds_member number name.now old mid was next one in
     let it = makes_both _ _ old mid new put (sets_clock moment mid new put.numbered two) in
-    record { house = it.house; schema = it.schema; numbered = it.numbered; version = version_then_clock 2 moment old mid new (omega arith) one.others two; other_houses = houses_then_clock 2 moment old mid new (omega arith) one.others two; tables = it.tables; reserves = same_reserves 0 mid new (omega arith) two.others ∙ same_reserves 2 old mid (omega arith) one.others }
+    record { house = it.house; schema = it.schema; numbered = it.numbered; version = version_then_clock 2 moment old mid new (omega arith) one.others two; other_houses = houses_then_clock 2 moment old mid new (omega arith) one.others two; tables = it.tables; reserves = same_reserves 0 mid new (omega arith) two.others ∙ same_reserves 2 old mid (omega arith) one.others; later_bands = same_later_bands 0 mid new (omega arith) two.others ∙ same_later_bands 2 old mid (omega arith) one.others }
 
 pub adds_category_named : (number moment : ℕ) (name : Bor (List ℕ)) (old mid new : Database) → IsNumbered old.trees → number ≡ length (categories_in old.trees) + 1 → AddsCategory number name.now old mid → SetsClock moment mid new
     → Changes (AddCategory moment name) old new
@@ -88,4 +88,4 @@ unfolding changed
 adds_category_named number moment name old mid new was next one two =
     let put = adds_category number name.now old mid was next one in
     let it = makes_both _ _ old mid new put (sets_clock moment mid new put.numbered two) in
-    record { house = it.house; schema = it.schema; numbered = it.numbered; version = version_then_clock 4 moment old mid new (omega arith) one.others two; other_houses = houses_then_clock 4 moment old mid new (omega arith) one.others two; tables = it.tables; reserves = same_reserves 0 mid new (omega arith) two.others ∙ same_reserves 4 old mid (omega arith) one.others }
+    record { house = it.house; schema = it.schema; numbered = it.numbered; version = version_then_clock 4 moment old mid new (omega arith) one.others two; other_houses = houses_then_clock 4 moment old mid new (omega arith) one.others two; tables = it.tables; reserves = same_reserves 0 mid new (omega arith) two.others ∙ same_reserves 4 old mid (omega arith) one.others; later_bands = same_later_bands 0 mid new (omega arith) two.others ∙ same_later_bands 4 old mid (omega arith) one.others }

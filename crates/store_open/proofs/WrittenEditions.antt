@@ -13,7 +13,7 @@ use Rattle.store_rows.specs.House.{SetsClock}
 use Rattle.store_rows.specs.ItemRows.{items_in}
 use Rattle.store_rows.specs.Rows.{edition_rows_in, later_band_in, later_bands_in, reserve_in, edition_row_in}
 use Rattle.store_rows.specs.Tables.{Changes, IsNumbered, bands_at, editions_by, editions_in, house_row_in, settings_in, tables_in}
-use Rattle.store_rows.proofs.Made.{Makes, houses_then_clock, makes_both, other, same_houses, same_reserves, same_version, sets_clock, version_then_clock}
+use Rattle.store_rows.proofs.Made.{Makes, houses_then_clock, makes_both, other, same_houses, same_later_bands, same_reserves, same_version, sets_clock, version_then_clock}
 use Rattle.store_open.specs.Setting.{AddsEdition, AddsLaterBands, later_band}
 use Rattle.store_open.proofs.MoreEditions.{all_within, below, edition_more, longer, of_edition, under_all}
 
@@ -92,4 +92,7 @@ module _ (edition first moment : ℕ) (bands : Bor (List (ℕ × ℕ))) (old mid
         tables = it.tables ∙ as_changed (next ∙ ap (λ n. n + 2) so_many) (begins ∙ ap (λ n. n + 1) same_items);
         reserves = same_reserves 0 last new (omega arith) three.others
             ∙ ap (map reserve_in) (two.others.1.1.1.1.1.1.1.1.1.0 (other 23 25 refl) ∙ one.others.1.1.1.1.1.1.1.1.1.0 (other 23 24 refl));
+        later_bands = same_later_bands 0 last new (omega arith) three.others ∙ two.later_bands
+            ∙ ap (λ rows. map later_band_in rows ++ map (later_band edition) bands.now) (one.others.1.1.1.1.1.1.1.1.1.1.1.0 (other 25 24 refl))
+            ∙ ap (λ (n : ℕ). later_bands_in old.trees ++ map (later_band n) bands.now) next;
       }

@@ -6,7 +6,7 @@ use Rattle.sqlite.specs.Effect.{Database}
 use Rattle.house_rows.specs.Tables.{Tables}
 use Rattle.store_rows.specs.declared.house.HouseRow.{HouseRow}
 use Rattle.store_rows.specs.House.{IsHouse, KeepsOthers, SetsClock}
-use Rattle.store_rows.specs.Rows.{house_in, reserve_in, reserves_in}
+use Rattle.store_rows.specs.Rows.{house_in, later_band_in, later_bands_in, reserve_in, reserves_in}
 use Rattle.store_rows.specs.Tables.{IsNumbered, editions_in, house_row_in, other_houses_in, settings_in, tables_in, version_in}
 use Rattle.store_rows.specs.Sorted.{sorted_bids, sorted_feedback, sorted_questions, sorted_watches}
 use Rattle.store_rows.proofs.Clock.{clock_others, clock_set, clock_version}
@@ -84,6 +84,10 @@ same_editions tree old new under others =
     let s : new.trees 24 ≡ old.trees 24 = others.1.1.1.1.1.1.1.1.1.1.0 (λ e. absurd (omega (arith, under, e))) in
     let l : new.trees 25 ≡ old.trees 25 = others.1.1.1.1.1.1.1.1.1.1.1.0 (λ e. absurd (omega (arith, under, e))) in
     rw (s, l) refl
+
+-- a write of a table before that of their bands leaves these
+pub same_later_bands : (tree : ℕ) (old new : Database) → tree < 25 → KeepsOthers tree old new → later_bands_in new.trees ≡ later_bands_in old.trees
+same_later_bands tree old new under others = ap (map later_band_in) (others.1.1.1.1.1.1.1.1.1.1.1.0 (λ e. absurd (omega (arith, under, e))))
 
 -- ---- the tables of what members do, which no number counts
 

@@ -108,6 +108,22 @@ reserves_after reserves next (Answer moment item asker number text) = reserves
 reserves_after reserves next (Feedback moment item from to rating text) = reserves
 reserves_after reserves next (SetBands moment bands) = reserves
 
+-- the bands of the later tables after a change: a table that is set adds its own, under the number that comes next
+abbrev pub later_bands_after : List LaterBandRow → ℕ → Change → List LaterBandRow
+later_bands_after rows next (Register moment name) = rows
+later_bands_after rows next (AddCategory moment name) = rows
+later_bands_after rows next (Listed moment item) = rows
+later_bands_after rows next (Bid moment item placed standing) = rows
+later_bands_after rows next (Buy moment item buyer price) = rows
+later_bands_after rows next (Close moment) = rows
+later_bands_after rows next (Settle moment item) = rows
+later_bands_after rows next (Watch member item) = rows
+later_bands_after rows next (Unwatch member item) = rows
+later_bands_after rows next (Ask item asker number text) = rows
+later_bands_after rows next (Answer moment item asker number text) = rows
+later_bands_after rows next (Feedback moment item from to rating text) = rows
+later_bands_after rows next (SetBands moment bands) = rows ++ map (λ (b : Band). record { edition = next; from = b.0; step = b.1 }) bands.now
+
 -- what a change makes of the house
 pub record Changes (change : Change) (old new : Database) : Type 0 where
   pub house : IsHouse new
@@ -117,3 +133,4 @@ pub record Changes (change : Change) (old new : Database) : Type 0 where
   pub other_houses : other_houses_in new.trees ≡ other_houses_in old.trees
   pub tables : tables_in new.trees ≡ changed (tables_in old.trees) change
   pub reserves : reserves_in new.trees ≡ reserves_after (reserves_in old.trees) (length (items_in old.trees) + 1) change
+  pub later_bands : later_bands_in new.trees ≡ later_bands_after (later_bands_in old.trees) (length (edition_rows_in old.trees) + 2) change

@@ -14,14 +14,14 @@ use Rattle.house_rows.specs.declared.change.NewItem.{NewItem}
 use Rattle.house_rows.specs.declared.change.Change.TheVariants.{List as Listed}
 use Rattle.store_rows.specs.declared.reserve.ReserveRow.{ReserveRow}
 use Rattle.store_rows.specs.House.{SetsClock}
-use Rattle.store_rows.specs.Rows.{reserves_in}
+use Rattle.store_rows.specs.Rows.{later_bands_in, reserves_in}
 use Rattle.store_items.specs.Items.{AddsItem}
 use Rattle.store_selling.specs.Listed.{AddsListing}
 use Rattle.store_rows.specs.Reserves.{AddsReserve}
 use Rattle.store_rows.specs.ItemRows.{item_row_in, items_in}
 use Rattle.store_rows.specs.Tables.{IsNumbered, Changes, house_row_in, other_houses_in, settings_in, tables_in, version_in, with_reserve}
 use Rattle.store_rows.proofs.Clock.{clock_others, clock_version}
-use Rattle.store_rows.proofs.Made.{Makes, makes_both, other, all_below, still_numbered, same_houses, same_reserves, same_version, sets_clock}
+use Rattle.store_rows.proofs.Made.{Makes, makes_both, other, all_below, still_numbered, same_houses, same_later_bands, same_reserves, same_version, sets_clock}
 use Rattle.store_items.proofs.Reserves.{kept_reserves, no_amount}
 use Rattle.store_selling.proofs.Sealed.{all_sealed, none_sealed, seal}
 
@@ -65,6 +65,7 @@ adds_item row old new was next none w =
       other_houses = same_houses 6 old new (omega arith) w.others;
       tables = rw (h, b, m, k, d, v, q, f, es, ls, rows) refl;
       reserves = same ∙ ap (λ (o : Option ℕ). with_reserve row.item.terms.item o (reserves_in old.trees)) (sym none);
+      later_bands = same_later_bands 6 old new (omega arith) w.others;
     }
   where
     longer : {X : Type 0} (xs : List X) (x : X) → length (xs ++ x ∷ []) ≡ length xs + 1
@@ -132,6 +133,7 @@ adds_reserved number amount item old mid new was next one two =
       other_houses = same_houses 23 mid new (omega arith) two.others ∙ put.other_houses;
       tables = rw (h, b, m, k, d, v, q, f, es, ls, items) (ap (λ (t : Tables). record t { items = items_in old.trees ++ new_item number (record item { reserve = Some amount }) ∷ [] }) put.tables);
       reserves = more ∙ ap (λ (l : List ReserveRow). l ++ x ∷ []) same;
+      later_bands = same_later_bands 23 mid new (omega arith) two.others ∙ put.later_bands;
     }
   where
     longer : {X : Type 0} (xs : List X) (x : X) → length (xs ++ x ∷ []) ≡ length xs + 1
@@ -149,9 +151,10 @@ module _ (number moment : ℕ) (item : NewItem) (old mid new : Database) where
       → version_in new.trees ≡ version_in old.trees
       → other_houses_in new.trees ≡ other_houses_in old.trees
       → reserves_in new.trees ≡ with_reserve number item.reserve (reserves_in old.trees)
+      → later_bands_in new.trees ≡ later_bands_in old.trees
       → Changes (Listed moment item) old new
   unfolding changed
-  with_next next it version others sealed = record {
+  with_next next it version others sealed bands = record {
     house = it.house;
     schema = it.schema;
     numbered = it.numbered;
@@ -162,6 +165,7 @@ module _ (number moment : ℕ) (item : NewItem) (old mid new : Database) where
       items = (tables_in old.trees).items ++ new_item n item ∷ [];
     }) next it.tables;
     reserves = sealed ∙ ap (λ (n : ℕ). with_reserve n item.reserve (reserves_in old.trees)) (next ∙ ap (λ n. n + 1) (sym same_items));
+    later_bands = bands;
   }
 
   pub lists : number ≡ length (items_in old.trees) + 1
@@ -172,3 +176,4 @@ module _ (number moment : ℕ) (item : NewItem) (old mid new : Database) where
       let it = makes_both _ _ old mid new put (sets_clock moment mid new put.numbered two) in
       with_next (next ∙ ap (λ n. n + 1) same_items) (record { house = it.house; schema = it.schema; numbered = it.numbered; tables = it.tables })
       (clock_version moment mid new two ∙ one.version) (clock_others moment mid new two ∙ one.other_houses) (same_reserves 0 mid new (omega arith) two.others ∙ one.reserves)
+      (same_later_bands 0 mid new (omega arith) two.others ∙ one.later_bands)

@@ -12,7 +12,7 @@ use Rattle.store_talk.specs.Answers.{SetsAnswer}
 use Rattle.store_rows.specs.House.{AddsFeedback, AddsQuestion, SetsClock}
 use Rattle.store_rows.specs.Tables.{IsNumbered, Changes, tables_in}
 use Rattle.store_talk.proofs.SortedTalk.{adds_feedback_sorted, adds_question_sorted, sets_answer_sorted}
-use Rattle.store_rows.proofs.Made.{Makes, houses_then_clock, makes_both, other, same_houses, same_reserves, same_version, sets_clock, stays_numbered, same_people, version_then_clock}
+use Rattle.store_rows.proofs.Made.{Makes, houses_then_clock, makes_both, other, same_houses, same_later_bands, same_reserves, same_version, sets_clock, stays_numbered, same_people, version_then_clock}
 
 pub adds_question : (question : Question) (old new : Database) → IsNumbered old.trees → AddsQuestion question old new → Makes (λ t. record t { questions = put_by question_key question t.questions }) old new
 unfolding tables_in
@@ -58,14 +58,14 @@ unfolding changed
 answers moment item asker number text old mid new was one two =
     let put = sets_answer item asker number text.now old mid was one in
     let it = makes_both _ _ old mid new put (sets_clock moment mid new put.numbered two) in
-    record { house = it.house; schema = it.schema; numbered = it.numbered; version = version_then_clock 12 moment old mid new (omega arith) one.others two; other_houses = houses_then_clock 12 moment old mid new (omega arith) one.others two; tables = it.tables; reserves = same_reserves 0 mid new (omega arith) two.others ∙ same_reserves 12 old mid (omega arith) one.others }
+    record { house = it.house; schema = it.schema; numbered = it.numbered; version = version_then_clock 12 moment old mid new (omega arith) one.others two; other_houses = houses_then_clock 12 moment old mid new (omega arith) one.others two; tables = it.tables; reserves = same_reserves 0 mid new (omega arith) two.others ∙ same_reserves 12 old mid (omega arith) one.others; later_bands = same_later_bands 0 mid new (omega arith) two.others ∙ same_later_bands 12 old mid (omega arith) one.others }
 
 pub asks : (item asker number : ℕ) (text : Bor (List ℕ)) (old new : Database) → IsNumbered old.trees → AddsQuestion (record { item = item; asker = asker; number = number; text = text.now; answer = None }) old new
     → Changes (Ask item asker number text) old new
 unfolding changed
 asks item asker number text old new was w =
     let it = adds_question (record { item = item; asker = asker; number = number; text = text.now; answer = None }) old new was w in
-    record { house = it.house; schema = it.schema; numbered = it.numbered; version = same_version 12 old new (omega arith) w.others; other_houses = same_houses 12 old new (omega arith) w.others; tables = it.tables; reserves = same_reserves 12 old new (omega arith) w.others }
+    record { house = it.house; schema = it.schema; numbered = it.numbered; version = same_version 12 old new (omega arith) w.others; other_houses = same_houses 12 old new (omega arith) w.others; tables = it.tables; reserves = same_reserves 12 old new (omega arith) w.others; later_bands = same_later_bands 12 old new (omega arith) w.others }
 
 pub gives : (moment item from to : ℕ) (rating : Rating) (text : Bor (List ℕ)) (old mid new : Database) → IsNumbered old.trees → AddsFeedback (record { item = item; from = from; to = to; rating = rating; text = text.now }) old mid → SetsClock moment mid new
     → Changes (Rated moment item from to rating text) old new
@@ -73,4 +73,4 @@ unfolding changed
 gives moment item from to rating text old mid new was one two =
     let put = adds_feedback (record { item = item; from = from; to = to; rating = rating; text = text.now }) old mid was one in
     let it = makes_both _ _ old mid new put (sets_clock moment mid new put.numbered two) in
-    record { house = it.house; schema = it.schema; numbered = it.numbered; version = version_then_clock 14 moment old mid new (omega arith) one.others two; other_houses = houses_then_clock 14 moment old mid new (omega arith) one.others two; tables = it.tables; reserves = same_reserves 0 mid new (omega arith) two.others ∙ same_reserves 14 old mid (omega arith) one.others }
+    record { house = it.house; schema = it.schema; numbered = it.numbered; version = version_then_clock 14 moment old mid new (omega arith) one.others two; other_houses = houses_then_clock 14 moment old mid new (omega arith) one.others two; tables = it.tables; reserves = same_reserves 0 mid new (omega arith) two.others ∙ same_reserves 14 old mid (omega arith) one.others; later_bands = same_later_bands 0 mid new (omega arith) two.others ∙ same_later_bands 14 old mid (omega arith) one.others }

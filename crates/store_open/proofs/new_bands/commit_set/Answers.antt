@@ -17,3 +17,15 @@ returns-in-Err-clause-commit g c =
       mode = search rules;
       crash = search (rules, it);
     }
+
+pub returns-in-Ok-clause-commit : goal.returns-in-Ok-clause-commit
+returns-in-Ok-clause-commit g c =
+    let it : Survives (state g.S.Store c.args.conn.now) (state g.S.Store c.commit.new.self.0) (MadeBy (SetBands c.args.moment c.args.bands) (state g.S.Store c.args.conn.now)) =
+    survives_commit g.S.Store c.args.conn.now c.transaction-tx.result.conn.now c.set_within.new.tx.conn.now (state g.S.Store c.commit.new.self.0) (SetBands c.args.moment c.args.bands)
+    c.transaction-tx.ensures.begun c.set_within.ensures.write.crash c.commit.ensures.survives c.in_ok-set_within.ensures.ok in record {
+      ok = search rules;
+      err = search rules;
+      only = search rules;
+      mode = search rules;
+      crash = search (rules, it);
+    }
