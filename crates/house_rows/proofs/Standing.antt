@@ -35,8 +35,12 @@ pub row_is_kept : (bands : List (ℕ × ℕ)) (row : ItemRow) → ItemRowFits ba
 row_is_kept bands row fits =
     let k : Kept = row.standing in
     let kept : is_standing bands k ≡ true = rw fits.is_consistent (accepted_shape bands (row_opening row) fits.bids fits.accepted fits.few) in
+    let begins : opening_of k ≡ row_opening row = ap opening_of fits.is_consistent in
+    let many : k.count ≡ length fits.bids = ap (λ (s : Kept). s.count) fits.is_consistent in
     record {
       reserve = reserve_goes row.item.terms.start row.item.terms.buy_now k.reserve fits.reserve;
+      start = sym (ap (λ (o : Opening). o.start) begins);
+      count = fits.count ∙ sym many;
       standing = kept;
       report = elim fits.report [
         | inl report ↦ inl (record { price = report.price; leader = report.leader; met = report.met })

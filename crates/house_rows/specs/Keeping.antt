@@ -53,9 +53,11 @@ abbrev pub IsReserve : ℕ → Option ℕ → Option ℕ → Type 0
 IsReserve start buy_now reserve = IfSome reserve (λ amount. (start < amount) × IfSome buy_now (λ most. amount ≤ most))
 
 -- what is sealed of an item goes with what its row shows: its reserve with the prices, its maxima with one another and with
--- these bands, and the standing that they give with the terms
+-- these bands, and the standing that they give with the terms, whose start and number of bids it has
 pub record IsKeptItem (bands : List Band) (t : Terms) (k : Kept) : Type 0 where
   pub reserve : IsReserve t.start t.buy_now k.reserve
+  pub start : t.start ≡ k.start
+  pub count : t.count ≡ k.count
   pub standing : is_standing bands k ≡ true
   pub report : ShowsBids t k ⊎ ShowsPurchase t k
 

@@ -155,6 +155,8 @@ keeps_bids : (bands : List (ℕ × ℕ)) (t : Terms) (reserve top second : Optio
     → IsKeptItem bands (with_met reserve top t) (record { start = t.start; reserve = reserve; price = t.price; leader = t.leader; top = top; second = second; count = t.count })
 keeps_bids bands t reserve top second goes shape = record {
   reserve = goes;
+  start = refl;
+  count = refl;
   standing = shape;
   report = inl (record { price = refl; leader = refl; met = shape_met bands (record { start = t.start; reserve = reserve }) t.price t.count t.leader top second shape });
 }
@@ -165,8 +167,12 @@ keeps_purchase : (bands : List (ℕ × ℕ)) (t : Terms) (reserve top : Option �
 keeps_purchase bands t reserve top goes unsealed is =
     let led = second_of_both (was_sold t.state) _ is in
     let rest = second_of_both (is_some t.leader) _ led in
+    let none : (t.count == 0) ≡ true = first_of_both (t.count == 0) _ rest in
+    let no_bids : t.count ≡ 0 = grind (arith, nat_tests, none) in
     record {
       reserve = goes;
+      start = refl;
+      count = no_bids;
       standing = same_start t.start;
       report = inr (record {
         sold = first_of_both (was_sold t.state) _ is;
