@@ -106,6 +106,20 @@ module _ (sql : List ℕ) (test : List Term) (is : AsksTerms sql test) (params :
       let each = passing_fit make (FitsBy editions) keep IsRow (passes test params) tests rows (are_rows old.now house) fit in
       subst (AllByRecursion (TermsHold editions R)) (sym order) (all_map (TermsHold editions R) show kept (all_weaker (λ r. FitsBy editions (make r)) (λ r. TermsHold editions R (show r)) (terms_row editions R params) kept each))
 
+  -- and where what is sealed goes with what is shown of all that it shows, it does so of the items that the query keeps
+  pub terms_back : (keep : ItemRow → Bool) → ((r : Row) → IsRow r → passes test params r ≡ keep (make r)) → (editions : BandTables)
+      → AllByRecursion (IsShownKept editions R) answer → AllByRecursion (IsKeptRowBy editions) (filter keep (items_in old.now.trees))
+  terms_back keep tests editions held =
+      let rows = old.now.trees 6 in
+      let kept = filter (passes test params) rows in
+      let show = shown_by terms_shown params in
+      let read = reads_as sql params old new _ house.schema _ (is _).0 (is _).2 (is _).1 answer h in
+      let order = in_order test terms_shown params rows answer house.shaped.1.1.1.1.0.0 (listed 6 test terms_shown by_rowid (overlay old.now.trees []) params answer (read.answer Null)) in
+      let typed : filter keep (map make rows) ≡ map make kept = filter-map keep make rows ∙ ap (map make) (sym (filter_same_on IsRow (passes test params) (λ r. keep (make r)) tests rows (are_rows old.now house))) in
+      let front = all_unmap (IsShownKept editions R) show kept (subst (AllByRecursion (IsShownKept editions R)) order held) in
+      subst (AllByRecursion (IsKeptRowBy editions)) (sym typed)
+      (all_map (IsKeptRowBy editions) make kept (all_weaker (λ r. IsShownKept editions R (show r)) (λ r. IsKeptRowBy editions (make r)) (λ r goes. goes) kept front))
+
   -- where the items that the query keeps have numbers of ours, up to the one with which so many pass a further test, it shows such
   pub terms_numbered : (keep shows : ItemRow → Bool) (further : Row → Bool) → ((r : Row) → IsRow r → passes test params r ≡ keep (make r))
       → ((r : Row) → IsRow r → (passes test params r && further (shown_by terms_shown params r)) ≡ shows (make r)) → (many : ℕ)

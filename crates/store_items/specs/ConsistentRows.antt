@@ -19,6 +19,10 @@ RowsFit test db = AllByRecursion (λ row. TermsFit row.item.terms) (filter test 
 abbrev pub RowsAreConsistent : BandTables → (ItemRow → Bool) → Trees → Type 0
 RowsAreConsistent editions test db = AllByRecursion (λ row. IsConsistentBy editions row.item.terms) (filter test (items_in db))
 
+-- of every item's row that passes a test what is sealed goes with what is shown
+abbrev pub RowsAreKept : BandTables → (ItemRow → Bool) → Trees → Type 0
+RowsAreKept editions test db = AllByRecursion (IsKeptRowBy editions) (filter test (items_in db))
+
 -- the item of a number is consistent, if there is one
 abbrev pub ItemIsConsistent : BandTables → Trees → ℕ → Type 0
 ItemIsConsistent editions db item = IfSome (terms_at (tables_in db) item) (IsConsistentBy editions)

@@ -86,6 +86,8 @@ pub fn terms_at<S: Alter>(
         (find (is_item number) (items_in db))) (λ db. RowFitsAt rules.now.editions db number) }
     ensures fits { IfOk result (λ found. IfSome found TermsFit) }
     ensures is_consistent { IfOk result (λ found. IfSome found (IsConsistentBy rules.now.editions)) }
+    ensures kept { HasCleanDisk (state S.Store conn.new) → OnOk result
+        (IsKeptAt rules.now.editions (state S.Store conn.old).now.trees number) }
 {
     match auction_at(conn, rules, number)? {
         Some(auction) => Ok(Some(auction.terms)),

@@ -200,6 +200,7 @@ fn add_terms(rules: &Rules, row: &Row, all: &mut Vec<Terms>) -> Result<(), KeepF
         → OnOk result (AllByRecursion TermsFit all.new.items) }
     ensures is_consistent { AllByRecursion (λ it. IsConsistentBy rules.now.editions it) all.old.items
         → OnOk result (AllByRecursion (λ it. IsConsistentBy rules.now.editions it) all.new.items) }
+    ensures shown { OnOk result (IsShownKept rules.now.editions rules.now.reserves row.now) }
     ensures damaged { TermsHold rules.now.editions rules.now.reserves row.now
         → ¬ (IsErrOf result Damaged) }
 {
@@ -221,6 +222,8 @@ pub(crate) fn terms_list(
     ensures fits { IfOk result (λ all. AllByRecursion TermsFit all.items) }
     ensures is_consistent { IfOk result (λ all. AllByRecursion
         (λ it. IsConsistentBy rules.now.editions it) all.items) }
+    ensures kept { OnOk result (AllByRecursion
+        (IsShownKept rules.now.editions rules.now.reserves) rows.now) }
     ensures damaged { AllByRecursion (TermsHold rules.now.editions rules.now.reserves) rows.now
         → ¬ (IsErrOf result Damaged) }
 {

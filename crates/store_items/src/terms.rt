@@ -1,7 +1,8 @@
 //! Items without their texts, by number.
-ghost use Rattle.std.specs.Prelude.{◌≡◌, ◌==◌, filter, map, IfOk};
+ghost use Rattle.std.specs.Prelude.{◌≡◌, ◌==◌, filter, map, IfOk, OnOk};
 ghost use Rattle.std.specs.List.{AllByRecursion};
 ghost use Rattle.sqlite.specs.Held.{state};
+ghost use Rattle.sqlite.specs.State.{HasCleanDisk};
 ghost use Rattle.proxy.specs.Bids.{is_leader};
 ghost use Rattle.house_rows.specs.Fits.{TermsFit};
 ghost use Rattle.house_rows.specs.Items.{is_due};
@@ -10,6 +11,7 @@ ghost use Rattle.house_rows.specs.Tables.{ItemRow};
 ghost use Rattle.store_rows.specs.House.{ServesBy};
 ghost use Rattle.store_rows.specs.ItemRows.{items_in};
 ghost use Rattle.store_rows.specs.Frames.{Finds};
+ghost use Rattle.store_items.specs.ConsistentRows.{RowsAreKept};
 ghost use Rattle.store_items.specs.LookUps.{ItemsFitBy};
 
 use crate::reads::terms_list;
@@ -33,6 +35,9 @@ pub fn terms_of_seller<S: Alter>(
     ensures fits { IfOk result (λ terms. AllByRecursion TermsFit terms.items) }
     ensures is_consistent { IfOk result (λ terms. AllByRecursion
         (IsConsistentBy rules.now.editions) terms.items) }
+    ensures kept { HasCleanDisk (state S.Store conn.new)
+        → OnOk result (RowsAreKept rules.now.editions (λ row. row.item.terms.seller == seller)
+        (state S.Store conn.old).now.trees) }
 {
     let rows = rows_shown(
         conn,
@@ -58,6 +63,9 @@ pub(crate) fn terms_led_by<S: Alter>(
     ensures fits { IfOk result (λ terms. AllByRecursion TermsFit terms.items) }
     ensures is_consistent { IfOk result (λ terms. AllByRecursion
         (IsConsistentBy rules.now.editions) terms.items) }
+    ensures kept { HasCleanDisk (state S.Store conn.new)
+        → OnOk result (RowsAreKept rules.now.editions
+        (λ row. is_leader row.item.terms.leader member) (state S.Store conn.old).now.trees) }
 {
     let rows = rows_shown(
         conn,
@@ -84,6 +92,9 @@ pub fn due_terms<S: Alter>(
     ensures fits { IfOk result (λ terms. AllByRecursion TermsFit terms.items) }
     ensures is_consistent { IfOk result (λ terms. AllByRecursion
         (IsConsistentBy rules.now.editions) terms.items) }
+    ensures kept { HasCleanDisk (state S.Store conn.new)
+        → OnOk result (RowsAreKept rules.now.editions (λ row. is_due moment row.item.terms)
+        (state S.Store conn.old).now.trees) }
 {
     // An end below 0 is none of ours, so it never comes.
     let rows = rows_shown(

@@ -7,9 +7,10 @@ use Rattle.store_rows.proofs.Select.{equals}
 use Rattle.store_rows.specs.ItemRows.{terms_by}
 use Rattle.store_rows.specs.Rows.{reserves_in}
 use Rattle.store_rows.proofs.StateLemmas.{ok_then}
-use Rattle.store_items.specs.Standing.{TermsHold}
+use Rattle.store_items.specs.Standing.{IsShownKept, TermsHold}
+use Rattle.store_items.proofs.ConsistentRows.{ok_as}
 use Rattle.store_items.proofs.TermMeaning.{terms_led_by_is, terms_led_by_text}
-use Rattle.store_items.proofs.TermFinds.{leader_test, terms_found, terms_kept}
+use Rattle.store_items.proofs.TermFinds.{leader_test, terms_back, terms_found, terms_kept}
 use Rattle.store_rows.proofs.ReservesServing.{serves}
 use Rattle.store_items.proofs.terms.terms_led_by.Goals as goal
 
@@ -41,3 +42,18 @@ returns-clause-finds g c =
           (terms_kept terms_led_by_text (equals 13 ∷ []) terms_led_by_is (Int (pos c.args.member) ∷ []) old new items (c.rows_shown.ensures.house clean) shown (λ row. is_leader row.item.terms.leader c.args.member) test editions fits))));
       read = search rules;
     }
+
+pub returns-clause-kept : goal.returns-clause-kept
+returns-clause-kept g c = λ clean.
+    let old = state g.S.Store c.args.conn.now in
+    let new = state g.S.Store c.rows_shown.new.conn in
+    let editions = c.args.rules.now.editions in
+    let items = c.in_ok-rows.rows.items in
+    let same : c.deref.result.now ≡ items = search rules in
+    let low : c.args.member < 2 ^ 32 = omega (arith, c.ranges.member) in
+    let test = leader_test (reserves_in old.now.trees) c.args.member low in
+    let known = (c.requires (omega (arith, c.rows_shown.ensures.read.crash.clean, clean))).2 in
+    let shown = rw c.params-to_sql.ensures at (c.in_ok-rows.ensures.rows clean) in
+    ok_as c.terms_list.result c.terms_list.ensures.kept (λ kept.
+    terms_back terms_led_by_text (equals 13 ∷ []) terms_led_by_is (Int (pos c.args.member) ∷ []) old new items (c.rows_shown.ensures.house clean) shown (λ row. is_leader row.item.terms.leader c.args.member) test editions
+    (subst (AllByRecursion (IsShownKept editions (reserves_in old.now.trees))) same (subst (λ rs. AllByRecursion (IsShownKept editions rs) c.deref.result.now) known kept)))

@@ -6,9 +6,10 @@ use Rattle.store_rows.proofs.Select.{equals}
 use Rattle.store_rows.specs.ItemRows.{terms_by}
 use Rattle.store_rows.specs.Rows.{reserves_in}
 use Rattle.store_rows.proofs.StateLemmas.{ok_then}
-use Rattle.store_items.specs.Standing.{TermsHold}
+use Rattle.store_items.specs.Standing.{IsShownKept, TermsHold}
+use Rattle.store_items.proofs.ConsistentRows.{ok_as}
 use Rattle.store_items.proofs.TermMeaning.{terms_of_seller_is, terms_of_seller_text}
-use Rattle.store_items.proofs.TermFinds.{seller_test, terms_found, terms_kept}
+use Rattle.store_items.proofs.TermFinds.{seller_test, terms_back, terms_found, terms_kept}
 use Rattle.store_rows.proofs.ReservesServing.{serves}
 use Rattle.store_items.proofs.terms.terms_of_seller.Goals as goal
 
@@ -40,3 +41,18 @@ returns-clause-finds g c =
           (terms_kept terms_of_seller_text (equals 2 ∷ []) terms_of_seller_is (Int (pos c.args.seller) ∷ []) old new items (c.rows_shown.ensures.house clean) shown (λ row. row.item.terms.seller == c.args.seller) test editions fits))));
       read = search rules;
     }
+
+pub returns-clause-kept : goal.returns-clause-kept
+returns-clause-kept g c = λ clean.
+    let old = state g.S.Store c.args.conn.now in
+    let new = state g.S.Store c.rows_shown.new.conn in
+    let editions = c.args.rules.now.editions in
+    let items = c.in_ok-rows.rows.items in
+    let same : c.deref.result.now ≡ items = search rules in
+    let low : c.args.seller < 2 ^ 32 = omega (arith, c.ranges.seller) in
+    let test = seller_test (reserves_in old.now.trees) c.args.seller low in
+    let known = (c.requires (omega (arith, c.rows_shown.ensures.read.crash.clean, clean))).2 in
+    let shown = rw c.params-to_sql.ensures at (c.in_ok-rows.ensures.rows clean) in
+    ok_as c.terms_list.result c.terms_list.ensures.kept (λ kept.
+    terms_back terms_of_seller_text (equals 2 ∷ []) terms_of_seller_is (Int (pos c.args.seller) ∷ []) old new items (c.rows_shown.ensures.house clean) shown (λ row. row.item.terms.seller == c.args.seller) test editions
+    (subst (AllByRecursion (IsShownKept editions (reserves_in old.now.trees))) same (subst (λ rs. AllByRecursion (IsShownKept editions rs) c.deref.result.now) known kept)))
