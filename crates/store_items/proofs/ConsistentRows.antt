@@ -8,11 +8,13 @@ use Rattle.proxy.specs.Bids.{is_leader}
 use Rattle.settle.specs.Statement.{is_party}
 use Rattle.house_rows.specs.Changed.{is_item}
 use Rattle.house_rows.specs.Fits.{TermsFit}
-use Rattle.house_rows.specs.Keeping.{FitsBy, IsConsistentBy}
+use Rattle.house_rows.specs.Found.{auction_of}
+use Rattle.house_rows.specs.Keeping.{FitsBy, IsConsistentBy, IsKeptItemBy}
 use Rattle.house_rows.specs.Taken.{FitWhere, may_be_party}
 use Rattle.house_rows.specs.Pages.{sale_of}
 use Rattle.house_rows.specs.Tables.{ItemRow}
 use Rattle.house_rows.specs.Verdict.{was_sold}
+use Rattle.house_rows.specs.declared.auction.Auction.{Auction}
 use Rattle.house_rows.specs.declared.item.Item.{Item}
 use Rattle.house_rows.specs.declared.item.Terms.{Terms}
 use Rattle.house_rows.specs.Editions.{BandTables}
@@ -120,11 +122,18 @@ module _ (editions : BandTables) (db : Trees) where
 
   -- ---- an item that is looked up
 
-  pub has_standing_item : (item : ℕ) (t : Terms) → option_map (λ (row : ItemRow). row.item.terms) (find (is_item item) (items_in db)) ≡ Some t → TermsFit t → IsConsistentBy editions t → HasStandingItem editions db item
+  pub has_standing_item : (item : ℕ) (a : Auction) → option_map auction_of (find (is_item item) (items_in db)) ≡ Some a → TermsFit a.terms → IsConsistentBy editions a.terms → IsKeptItemBy editions a.terms a.standing
+      → HasStandingItem editions db item
   unfolding tables_in
-  has_standing_item item t found fits is_consistent =
-      let row = whole (λ (row : ItemRow). row.item.terms) (find (is_item item) (items_in db)) t found in
-      record { row = row.0; row_there = row.1; fits = subst TermsFit (sym row.2) fits; is_consistent = subst (IsConsistentBy editions) (sym row.2) is_consistent }
+  has_standing_item item a found fits is_consistent kept =
+      let row = whole auction_of (find (is_item item) (items_in db)) a found in
+      record {
+        row = row.0;
+        row_there = row.1;
+        fits = subst (λ (x : Auction). TermsFit x.terms) (sym row.2) fits;
+        is_consistent = subst (λ (x : Auction). IsConsistentBy editions x.terms) (sym row.2) is_consistent;
+        kept = subst (λ (x : Auction). IsKeptItemBy editions x.terms x.standing) (sym row.2) kept;
+      }
 
 -- ---- rows that a member's sales take
 

@@ -35,9 +35,10 @@ RowFitsAt editions db item = AllByRecursion (λ row. row.item.terms.item ≡ ite
 abbrev pub IsKeptAt : BandTables → Trees → ℕ → Type 0
 IsKeptAt editions db item = IfSome (find (is_item item) (items_in db)) (IsKeptRowBy editions)
 
--- there is an item of a number, whose row fits and is consistent
+-- there is an item of a number, whose row fits and is consistent, also with what is sealed
 pub record HasStandingItem (editions : BandTables) (db : Trees) (item : ℕ) : Type 0 where
   pub row : ItemRow
   pub row_there : row_at (tables_in db) item ≡ Some row
   pub fits : TermsFit row.item.terms
   pub is_consistent : IsConsistentBy editions row.item.terms
+  pub kept : IsKeptRowBy editions row

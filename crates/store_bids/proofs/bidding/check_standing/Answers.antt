@@ -32,7 +32,7 @@ returns-then-eq-clause-finds g c = record {
       let same : c.amount-reserve.result ≡ amount_of (reserves_in db.trees) terms.item = rw c.from-2.ensures at c.amount-reserve.ensures ∙ ap (λ (l : List ReserveRow). amount_of l terms.item) before.2 in
       let begins : opening_of c.args.standing.now ≡ record { start = terms.start; reserve = c.amount-reserve.result } = search rules in
       record {
-        there = has_standing_item c.args.rules.now.editions db.trees c.args.item terms found known.fits known.is_consistent;
+        there = has_standing_item c.args.rules.now.editions db.trees c.args.item auction known.found known.fits known.is_consistent known.kept;
         start = standing_checked db before.1 c.args.item low terms (opening_of c.args.standing.now) found known.fits
             (begins ∙ ap (λ (r : Option ℕ). record { start = terms.start; reserve = r }) same);
       });

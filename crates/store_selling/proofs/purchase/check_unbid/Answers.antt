@@ -1,6 +1,5 @@
 use Rattle.std.proofs.Common.{◌<◌, ◌^◌, arith, rules, sym, ◌∙◌, true≢false}
 use Rattle.sqlite.specs.Held.{state}
-use Rattle.store_items.proofs.Auctions.{terms_found}
 use Rattle.store_selling.proofs.Unbid.{purchase_unbid, unbid_checked}
 use Rattle.store_items.proofs.ConsistentRows.{has_standing_item}
 use Rattle.store_selling.proofs.purchase.check_unbid.Goals as goal
@@ -21,7 +20,7 @@ returns-then-is_unbid g c = record {
       let auction = c.in_ok-auction.auction in
       let known = c.in_ok-auction.ensures.value clean in
       record {
-        there = has_standing_item c.args.rules.now.editions db.trees c.args.item auction.terms (terms_found _ auction known.found) known.fits known.is_consistent;
+        there = has_standing_item c.args.rules.now.editions db.trees c.args.item auction known.found known.fits known.is_consistent known.kept;
         unbid = unbid_checked db before.1 c.args.item low auction known.found known.fits (sym c.is_unbid.ensures ∙ c.if-is_unbid.true);
       });
   damaged = search rules;

@@ -15,7 +15,7 @@ returns g c = record {
       let known = c.in_ok-auction_seen.ensures.value clean in
       let found = terms_found _ auction known.found in
       record {
-        there = has_standing_item c.args.rules.now.editions db.trees c.args.item auction.terms found known.fits known.is_consistent;
+        there = has_standing_item c.args.rules.now.editions db.trees c.args.item auction known.found known.fits known.is_consistent known.kept;
         fits = start_checked db before.1 c.args.item low auction.terms found known.fits;
       });
   damaged = search rules;
