@@ -1,4 +1,5 @@
--- That what a look-up of a keep found is consistent: each item with its own band table.
+-- That what a look-up of a keep found is consistent, each item with its own band table; and that what is sealed of the items
+-- that it took goes with what is shown.
 use Rattle.std.specs.Prelude.{ℕ, Option, Vec, IfOk, IfSome, OnOk, Result}
 use Rattle.std.specs.List.{AllByRecursion, list_any}
 use Rattle.settle.specs.Statement.{is_party}
@@ -9,7 +10,7 @@ use Rattle.house_rows.specs.declared.item.OwnBid.{OwnBid}
 use Rattle.house_rows.specs.declared.item.Terms.{Terms}
 use Rattle.house_rows.specs.declared.talk.Question.{Question}
 use Rattle.house_rows.specs.Items.{is_due}
-use Rattle.house_rows.specs.Keeping.{AllConsistent, IsConsistentAt, IsConsistentIn}
+use Rattle.house_rows.specs.Keeping.{AllConsistent, AllKept, IsConsistentAt, IsConsistentIn}
 use Rattle.house_rows.specs.Pages.{sale_of}
 use Rattle.house_rows.specs.Tables.{Tables}
 
@@ -39,6 +40,9 @@ AskedConsistent t result =
 -- every item that is due at a moment
 abbrev pub DueConsistent : {A : Type 0} → ℕ → Tables → Result A KeepFault → Type 0
 DueConsistent moment t result = OnOk result (AllConsistent (λ row. is_due moment row.item.terms) t)
+
+abbrev pub DueKept : {A : Type 0} → ℕ → Tables → Result A KeepFault → Type 0
+DueKept moment t result = OnOk result (AllKept (λ row. is_due moment row.item.terms) t)
 
 -- every item to whose sale a member is a party
 abbrev pub SalesConsistent : {A : Type 0} → ℕ → Tables → Result A KeepFault → Type 0

@@ -98,6 +98,10 @@ IsKeptRowBy editions row = IsKeptItemBy editions row.item.terms row.standing
 abbrev pub IsKeptRow : Tables → ItemRow → Type 0
 IsKeptRow t row = IsKeptRowBy (band_tables t) row
 
+-- so of every item's row that passes a test
+abbrev pub AllKept : (ItemRow → Bool) → Tables → Type 0
+AllKept test t = AllByRecursion (IsKeptRow t) (filter test t.items)
+
 -- so of each item that a member watches
 abbrev pub AreKeptWatched : ℕ → Tables → Type 0
 AreKeptWatched member t = (item : ℕ) → is_watched t member item ≡ true → IfSome (row_at t item) (IsKeptRow t)

@@ -6,7 +6,7 @@ use Rattle.std.specs.Prelude.{◌==◌, ◌&&◌, ◌↔◌, Err, IfSome, IsErrO
 use Rattle.std.proofs.lemmas.Bool.Decides.{nat_tests}
 use Rattle.std.specs.List.{AllByRecursion}
 use Rattle.sqlite_trees.specs.Tree.{Trees}
-use Rattle.house_rows.specs.Keeping.{AllConsistent, AreSound, AreSoundBy, Faults, FitsBy, RowFits, IsConsistentAt, IsConsistentBy, IsConsistentIn, IsKeptItemBy, IsKeptRow, IsKeptRowBy, IsRead}
+use Rattle.house_rows.specs.Keeping.{AllConsistent, AllKept, AreSound, AreSoundBy, Faults, FitsBy, RowFits, IsConsistentAt, IsConsistentBy, IsConsistentIn, IsKeptItemBy, IsKeptRow, IsKeptRowBy, IsRead}
 use Rattle.house_rows.specs.Taken.{FitWhere}
 use Rattle.house_rows.specs.Editions.{BandTables}
 use Rattle.proxy.specs.Kept.{Kept}
@@ -27,7 +27,7 @@ use Rattle.store_rows.specs.ItemRows.{items_in}
 use Rattle.store_rows.specs.Tables.{tables_in}
 use Rattle.store_items.specs.Seen.{IsThere}
 use Rattle.store.proofs.Remembered.{seen_there}
-use Rattle.store_items.specs.ConsistentRows.{ItemIsConsistent, RowFitsAt, RowsAreConsistent}
+use Rattle.store_items.specs.ConsistentRows.{ItemIsConsistent, RowFitsAt, RowsAreConsistent, RowsAreKept}
 use Rattle.store_rows.proofs.Sound.{rows_fit}
 use Rattle.store_items.proofs.Auctions.{terms_none as no_terms, terms_some as auction_terms}
 use Rattle.sqlite_trees.specs.declared.store.Store.{Ghosts}
@@ -120,6 +120,10 @@ module _ {seen : Option Auction} (db : Trees) (editions : BandTables) (reserves 
   pub all_are_consistent : (test : ItemRow → Bool) → RowsAreConsistent editions test db → AllConsistent test (tables_in db)
   unfolding tables_in
   all_are_consistent test = subst (λ (b : BandTables). RowsAreConsistent b test db) (sym known.editions_are)
+
+  pub all_are_kept : (test : ItemRow → Bool) → RowsAreKept editions test db → AllKept test (tables_in db)
+  unfolding tables_in
+  all_are_kept test = subst (λ (b : BandTables). RowsAreKept b test db) (sym known.editions_are)
 
   -- so of what names an item
   pub each_is_consistent : {A : Type 0} (item : A → ℕ) (xs : List A) → AllByRecursion (λ x. ItemIsConsistent editions db (item x)) xs → AllByRecursion (λ x. IsConsistentAt (tables_in db) (item x)) xs

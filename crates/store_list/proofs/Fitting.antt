@@ -17,7 +17,7 @@ use Rattle.house_rows.specs.declared.item.Terms.{Terms}
 use Rattle.house_rows.specs.Fits.{IsItem, IsMember, ItemFits, OwnBidFits, OwnReserveFits, StandingFits, TermsFit}
 use Rattle.house_rows.specs.Found.{all_items, auction_at, auction_of, item_at, item_with_lot, own_bid, own_bids, own_reserves, reserves_in, row_at, standing_at, terms_at}
 use Rattle.house_rows.specs.Changed.{is_item}
-use Rattle.house_rows.specs.Keeping.{AllConsistent, AreSound, ItemRowFits, RowFits, IsConsistentAt, IsConsistentIn, IsKeptRow}
+use Rattle.house_rows.specs.Keeping.{AllConsistent, AllKept, AreSound, ItemRowFits, RowFits, IsConsistentAt, IsConsistentIn, IsKeptRow}
 use Rattle.house_rows.specs.Limits.{most_shown}
 use Rattle.house_rows.specs.Pages.{reserve_reported}
 use Rattle.house_rows.specs.Tables.{ItemRow, Tables, bands_for, row_opening}
@@ -190,3 +190,6 @@ all_kept t sound = every_as (RowFits t) (IsKeptRow t) t.items (λ row fits. row_
 
 pub kept_at : (t : Tables) → AreSound t → (i : ℕ) → IfSome (row_at t i) (IsKeptRow t)
 kept_at t sound i = find_fits (IsKeptRow t) (is_item i) t.items (all_kept t sound)
+
+pub all_are_kept : (t : Tables) (test : ItemRow → Bool) → AreSound t → AllKept test t
+all_are_kept t test sound = filter_fits (IsKeptRow t) test t.items (all_kept t sound)

@@ -8,7 +8,7 @@ use Rattle.house_rows.specs.Items.{is_due}
 use Rattle.house_rows.specs.declared.item.Terms.{Terms}
 use Rattle.house_rows.specs.declared.item.Due.{Due}
 use Rattle.store_rows.specs.Tables.{tables_in}
-use Rattle.store_items.specs.ConsistentRows.{HasStandingItem, RowFitsAt, RowsAreConsistent, RowsFit}
+use Rattle.store_items.specs.ConsistentRows.{HasStandingItem, RowFitsAt, RowsAreConsistent, RowsAreKept, RowsFit}
 use Rattle.store_items.specs.Items.{OfItemIn}
 use Rattle.store_selling.specs.Sales.{IsDue, IsUnbid, StartFits}
 
@@ -24,16 +24,18 @@ pub record PurchaseFitsThere (editions : BandTables) (item : ℕ) (db : Trees) :
 
 -- ---- what is answered
 
--- how many a close would leave sold, and how many unsold; all that are due are consistent
+-- how many a close would leave sold, and how many unsold; all that are due are consistent, also with what is sealed
 pub record IsDueAt (editions : BandTables) (moment : ℕ) (db : Trees) (due : Due) : Type 0 where
   pub counts : due ≡ due_at (tables_in db) moment
   pub is_consistent : RowsAreConsistent editions (λ row. is_due moment row.item.terms) db
+  pub kept : RowsAreKept editions (λ row. is_due moment row.item.terms) db
 
--- the items that a close takes; their rows fit and are consistent
+-- the items that a close takes; their rows fit and are consistent, also with what is sealed
 pub record TakesDue (editions : BandTables) (moment : ℕ) (db : Trees) (found : List Terms) : Type 0 where
   pub due : IsDue moment found db
   pub fits : RowsFit (λ row. is_due moment row.item.terms) db
   pub is_consistent : RowsAreConsistent editions (λ row. is_due moment row.item.terms) db
+  pub kept : RowsAreKept editions (λ row. is_due moment row.item.terms) db
 
 -- there is an item of a number that is consistent, and its start is an amount
 pub record HasStartingItem (editions : BandTables) (item : ℕ) (db : Trees) : Type 0 where

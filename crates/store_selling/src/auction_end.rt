@@ -13,7 +13,7 @@ ghost use Rattle.house_rows.specs.Taken.{FitWhere};
 ghost use Rattle.store_rows.specs.ItemRows.{items_in};
 ghost use Rattle.store_rows.specs.Rows.{reserves_in};
 ghost use Rattle.store_rows.specs.Tables.{Changes, IsNumbered, Rests, tables_in};
-ghost use Rattle.store_items.specs.ConsistentRows.{RowsFit, RowsAreConsistent};
+ghost use Rattle.store_items.specs.ConsistentRows.{RowsFit, RowsAreConsistent, RowsAreKept};
 ghost use Rattle.store_items.specs.Items.{SetsItems};
 ghost use Rattle.store_selling.specs.Sales.{IsDue, StartsFit, with_ends};
 ghost use Rattle.store_rows.specs.Frames.{Finds, WritesMany};
@@ -108,6 +108,9 @@ pub fn close<S: Alter>(
         (state S.Store conn.old).now.trees) }
     ensures is_consistent { HasCleanDisk (state S.Store conn.new)
         → OnOk result (RowsAreConsistent rules.now.editions (λ row. is_due moment row.item.terms)
+        (state S.Store conn.old).now.trees) }
+    ensures kept { HasCleanDisk (state S.Store conn.new)
+        → OnOk result (RowsAreKept rules.now.editions (λ row. is_due moment row.item.terms)
         (state S.Store conn.old).now.trees) }
     ensures moment { OnOk result (moment < 2 ^ 32) }
     ensures damaged { HasCleanDisk (state S.Store conn.new)

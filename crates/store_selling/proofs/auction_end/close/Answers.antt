@@ -10,7 +10,7 @@ use Rattle.house_rows.specs.declared.change.Change.TheVariants as change
 use Rattle.store_rows.specs.Commits.{IsBack, MadeBy}
 use Rattle.store_rows.specs.ItemRows.{items_in}
 use Rattle.store_rows.proofs.CommitSteps.{survives_change, survives_commit}
-use Rattle.store_items.specs.ConsistentRows.{RowsFit, RowsAreConsistent}
+use Rattle.store_items.specs.ConsistentRows.{RowsFit, RowsAreConsistent, RowsAreKept}
 use Rattle.store_items.proofs.ConsistentRows.{ok_so}
 use Rattle.store_items.proofs.Undone.{back_undone, survives_undone}
 use Rattle.store_selling.proofs.auction_end.close.Goals as goal
@@ -92,4 +92,17 @@ returns-clause-is_consistent g c =
     let report : HasCleanDisk last → OnOk c.commit.result (RowsAreConsistent c.args.rules.now.editions (λ (row : ItemRow). is_due c.args.moment row.item.terms) old.now.trees) = λ clean.
     let first : HasCleanDisk mid = omega (arith, made.clean, clean) in
     ok_so c.commit.result (subst (λ (m : ℕ). RowsAreConsistent c.args.rules.now.editions (λ (row : ItemRow). is_due m row.item.terms) old.now.trees) c.in_ok-moment.ensures.value (c.in_ok-due.ensures.value first).is_consistent) in
+    search (rules, report)
+
+pub returns-clause-kept : goal.returns-clause-kept
+returns-clause-kept g c =
+    let old = state g.S.Store c.args.conn.now in
+    let mid = state g.S.Store c.find_due.new.conn in
+    let last = state g.S.Store c.commit.new.tx.0 in
+    let made : Survives mid last (MadeBy (change.Close c.in_ok-moment.moment) mid) =
+    survives_commit g.S.Store c.find_due.new.conn c.transaction-tx.result.conn.now c.write_close.new.tx.conn.now last (change.Close c.in_ok-moment.moment)
+    c.transaction-tx.ensures.begun c.write_close.ensures.write.crash c.commit.ensures.crash c.in_ok-write_close.ensures.ok in
+    let report : HasCleanDisk last → OnOk c.commit.result (RowsAreKept c.args.rules.now.editions (λ (row : ItemRow). is_due c.args.moment row.item.terms) old.now.trees) = λ clean.
+    let first : HasCleanDisk mid = omega (arith, made.clean, clean) in
+    ok_so c.commit.result (subst (λ (m : ℕ). RowsAreKept c.args.rules.now.editions (λ (row : ItemRow). is_due m row.item.terms) old.now.trees) c.in_ok-moment.ensures.value (c.in_ok-due.ensures.value first).kept) in
     search (rules, report)

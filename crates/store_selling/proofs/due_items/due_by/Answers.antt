@@ -18,6 +18,7 @@ returns g c = record {
             (c.counts_of.ensures.sold ∙ ap (counted (λ t. close_sells t.leader t.met)) same)
             (c.counts_of.ensures.unsold ∙ ap (counted (λ t. not (close_sells t.leader t.met))) same);
         is_consistent = terms_are_consistent c.args.rules.now.editions db (λ row. is_due c.args.moment row.item.terms) due are c.in_ok-due.ensures.is_consistent;
+        kept = c.in_ok-due.ensures.kept clean;
       });
   damaged = search rules;
   read = search rules;

@@ -4,7 +4,7 @@ use Rattle.std.specs.Prelude.{Err}
 use Rattle.sqlite.specs.Held.{state}
 use Rattle.sqlite.specs.State.{HasCleanDisk}
 use Rattle.store_rows.specs.Tables.{tables_in}
-use Rattle.store.proofs.Known.{all_are_consistent, known_serves, known_where, works, failed_look}
+use Rattle.store.proofs.Known.{all_are_consistent, all_are_kept, known_serves, known_where, works, failed_look}
 use Rattle.store.proofs.keep.SqlKeepKeep.due.Goals as goal
 
 pub due-requires : goal.due-requires
@@ -24,3 +24,9 @@ unfolding tables_in
 returns-in-Ok-clause-is_consistent g c = λ honest.
     let before : HasCleanDisk (state g.S.Store c.self.inside.conn) = omega (arith, c.in-Ok.ensures.read.crash.clean, honest) in
     rw (← c.self.view_is) (all_are_consistent _ _ _ _ _ (c.self.invariant.known (works _ _ c.self.view_is c.in_ok-serves.ensures.ok) before) _ (c.in-Ok.ensures.value honest).is_consistent)
+
+pub returns-in-Ok-clause-kept : goal.returns-in-Ok-clause-kept
+unfolding tables_in
+returns-in-Ok-clause-kept g c = λ honest.
+    let before : HasCleanDisk (state g.S.Store c.self.inside.conn) = omega (arith, c.in-Ok.ensures.read.crash.clean, honest) in
+    rw (← c.self.view_is) (all_are_kept _ _ _ _ _ (c.self.invariant.known (works _ _ c.self.view_is c.in_ok-serves.ensures.ok) before) _ (c.in-Ok.ensures.value honest).kept)
