@@ -48,3 +48,7 @@ DueKept moment t result = OnOk result (AllKept (λ row. is_due moment row.item.t
 abbrev pub SalesConsistent : {A : Type 0} → ℕ → Tables → Result A KeepFault → Type 0
 SalesConsistent member t result =
     OnOk result (AllConsistent (λ row. list_any (is_party member) (sale_of row.item.terms)) t)
+
+abbrev pub SalesKept : {A : Type 0} → ℕ → Tables → Result A KeepFault → Type 0
+SalesKept member t result =
+    OnOk result (AllKept (λ row. list_any (is_party member) (sale_of row.item.terms)) t)

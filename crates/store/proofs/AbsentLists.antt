@@ -8,7 +8,7 @@ use Rattle.settle.specs.Statement.{is_party}
 use Rattle.proxy.specs.Bids.{is_leader}
 use Rattle.house_rows.specs.Changed.{is_item}
 use Rattle.house_rows.specs.Found.{feedback_to, first_waiting, is_watched, items_in, items_watched, own_bid, own_bids, own_reserves, published_on, questions_of, reserves_in, sales_in, sales_to, sells, waiting_for}
-use Rattle.house_rows.specs.Keeping.{AllConsistent, AreKeptWatched, IsConsistentIn, IsKeptRow}
+use Rattle.house_rows.specs.Keeping.{AllConsistent, AllKept, AreKeptWatched, IsConsistentIn, IsKeptRow}
 use Rattle.house_rows.specs.Limits.{most_shown}
 use Rattle.house_rows.specs.Pages.{sale_of}
 use Rattle.house_rows.specs.Tables.{ItemRow}
@@ -164,4 +164,10 @@ module _ (db : Trees) (n : ℕ) (high : 2 ^ 32 ≤ n) (low : n < 2 ^ 64) where
   unfolding tables_in
   no_rows_sold =
       none_party (λ (row : ItemRow). IsConsistentIn (tables_in db) row.item.terms) (stored.items_in db) n high sellers_other
+      (each_fails (λ (row : ItemRow). is_leader row.item.terms.leader n) (stored.items_in db) (no_items_led db n high low))
+
+  pub no_sold_kept : AllKept (λ (row : ItemRow). list_any (is_party n) (sale_of row.item.terms)) (tables_in db)
+  unfolding tables_in
+  no_sold_kept =
+      none_party (IsKeptRow (tables_in db)) (stored.items_in db) n high sellers_other
       (each_fails (λ (row : ItemRow). is_leader row.item.terms.leader n) (stored.items_in db) (no_items_led db n high low))

@@ -474,7 +474,7 @@ impl<S: Alter> Keep for SqlKeep<S> {
         )
     }
 
-    #[tactic(auto, using(crate::proofs::AbsentLists::no_sales, crate::proofs::AbsentLists::no_rows_sold))]
+    #[tactic(auto, using(crate::proofs::AbsentLists::no_sales, crate::proofs::AbsentLists::no_rows_sold, crate::proofs::AbsentLists::no_sold_kept))]
     fn sold_of(&mut self, member: u64) -> Result<Vec<Sold>, KeepFault> {
         self.serves()?;
         let Ok(member) = u32::try_from(member) else {

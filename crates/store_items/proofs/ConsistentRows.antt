@@ -9,7 +9,7 @@ use Rattle.settle.specs.Statement.{is_party}
 use Rattle.house_rows.specs.Changed.{is_item}
 use Rattle.house_rows.specs.Fits.{TermsFit}
 use Rattle.house_rows.specs.Found.{auction_of}
-use Rattle.house_rows.specs.Keeping.{FitsBy, IsConsistentBy, IsKeptItemBy}
+use Rattle.house_rows.specs.Keeping.{FitsBy, IsConsistentBy, IsKeptItemBy, IsKeptRowBy}
 use Rattle.house_rows.specs.Taken.{FitWhere, may_be_party}
 use Rattle.house_rows.specs.Pages.{sale_of}
 use Rattle.house_rows.specs.Tables.{ItemRow}
@@ -23,7 +23,7 @@ use Rattle.house_rows.proofs.Put.{by_test}
 use Rattle.store_rows.specs.ItemRows.{items_in}
 use Rattle.store_rows.specs.Tables.{tables_in}
 use Rattle.store_rows.proofs.Wrote.{all_more}
-use Rattle.store_items.specs.ConsistentRows.{HasStandingItem, RowsFit, RowsAreConsistent, ItemIsConsistent}
+use Rattle.store_items.specs.ConsistentRows.{HasStandingItem, RowsAreKept, RowsFit, RowsAreConsistent, ItemIsConsistent}
 use Rattle.store_items.proofs.PartySales.{all_kept, buyer_is}
 use Rattle.store_items.proofs.Rows.{whole}
 
@@ -113,6 +113,22 @@ module _ (editions : BandTables) (db : Trees) where
       (all_both (λ row. mine row ≡ true → IsConsistentRow row) (λ row. leads row ≡ true → IsConsistentRow row) (λ row. party row ≡ true → IsConsistentRow row)
       (λ row by_seller by_leader is. elim (party_known member row.item.terms some is) [ inl sells' ↦ by_seller sells' | inr leads' ↦ by_leader leads' ])
       (items_in db) (found_are_consistent mine sold sold_is one) (found_are_consistent leads led led_is other))
+
+  -- and of each what is sealed goes with what is shown
+  pub sales_are_kept : (member : ℕ) → 1 ≤ member → RowsAreKept editions (λ row. row.item.terms.seller == member) db → RowsAreKept editions (λ row. is_leader row.item.terms.leader member) db
+      → RowsAreKept editions (λ row. list_any (is_party member) (sale_of row.item.terms)) db
+  sales_are_kept member some one other =
+      let mine : ItemRow → Bool = λ row. row.item.terms.seller == member in
+      let leads : ItemRow → Bool = λ row. is_leader row.item.terms.leader member in
+      let party : ItemRow → Bool = λ row. list_any (is_party member) (sale_of row.item.terms) in
+      passed (IsKeptRowBy editions) party (items_in db)
+      (all_both (λ row. mine row ≡ true → IsKeptRowBy editions row) (λ row. leads row ≡ true → IsKeptRowBy editions row) (λ row. party row ≡ true → IsKeptRowBy editions row)
+      (λ row by_seller by_leader is. elim (party_known member row.item.terms some is) [ inl sells' ↦ by_seller sells' | inr leads' ↦ by_leader leads' ])
+      (items_in db) (all_kept (IsKeptRowBy editions) mine (items_in db) one) (all_kept (IsKeptRowBy editions) leads (items_in db) other))
+
+  -- of all items those that pass a test are kept
+  pub those_are_kept : (test : ItemRow → Bool) → AllByRecursion (IsKeptRowBy editions) (items_in db) → RowsAreKept editions test db
+  those_are_kept test all = all-filter (IsKeptRowBy editions) test (items_in db) all
 
   -- ---- what a member has bid
 

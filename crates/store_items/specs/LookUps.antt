@@ -15,7 +15,7 @@ use Rattle.house_rows.specs.Taken.{FitWhere, has_own_reserve, up_to}
 use Rattle.house_rows.specs.Text.{same_text}
 use Rattle.store_rows.specs.ItemRows.{items_in}
 use Rattle.store_rows.specs.Tables.{tables_in}
-use Rattle.store_items.specs.ConsistentRows.{RowFitsAt, RowsAreConsistent}
+use Rattle.store_items.specs.ConsistentRows.{RowFitsAt, RowsAreConsistent, RowsAreKept}
 
 -- ---- the rows that are taken
 
@@ -55,10 +55,11 @@ number_with_lot seller lot db =
     option_map (λ (row : ItemRow). row.item.terms.item)
     (find (λ row. (row.item.terms.seller == seller) && same_text row.item.lot lot) (items_in db))
 
--- the sales to which a member is a party, of items that are consistent
+-- the sales to which a member is a party, of items that are consistent, also with what is sealed
 pub record AreSalesTo (editions : BandTables) (member : ℕ) (db : Trees) (found : List Sold) : Type 0 where
   pub sales : found ≡ sales_to (tables_in db) member
   pub is_consistent : RowsAreConsistent editions (λ row. list_any (is_party member) (sale_of row.item.terms)) db
+  pub kept : RowsAreKept editions (λ row. list_any (is_party member) (sale_of row.item.terms)) db
 
 -- what a list of sales promises without the disk
 pub record AreSales (sales : List Sold) : Type 0 where

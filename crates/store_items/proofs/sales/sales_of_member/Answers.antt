@@ -6,10 +6,11 @@ use Rattle.house_rows.specs.Pages.{sale_of}
 use Rattle.house_rows.specs.Tables.{ItemRow}
 use Rattle.store_rows.specs.ItemRows.{items_in}
 use Rattle.store_rows.proofs.StateLemmas.{ok_then}
+use Rattle.store_items.specs.ConsistentRows.{RowsAreKept}
 use Rattle.store_items.specs.LookUps.{ItemsFitBy}
 use Rattle.store_items.specs.Rising.{rise_from}
 use Rattle.store_items.proofs.PartySales.{both_fit, rising_from_0, sales_are, sales_found}
-use Rattle.store_items.proofs.ConsistentRows.{led_fit, sales_are_consistent, sold_fit}
+use Rattle.store_items.proofs.ConsistentRows.{led_fit, sales_are_consistent, sales_are_kept, sold_fit}
 use Rattle.store_rows.proofs.Steps.{clean_before}
 use Rattle.store_rows.proofs.ReservesServing.{serves_still}
 use Rattle.store_items.proofs.sales.sales_of_member.Goals as goal
@@ -76,6 +77,8 @@ returns-clause-finds g c =
           ok_then c.sales_of.result c.sales_of.ensures.value (λ sales e. record {
             sales = e ∙ ap (flat_map sale_of) shown ∙ found.0;
             is_consistent = sales_are_consistent c.args.rules.now.editions old.now.trees c.args.member c.in_ok-sold.sold.items c.in_ok-led.led.items c.requires.numbered sold_is led_is c.in_ok-sold.ensures.is_consistent c.in_ok-led.ensures.is_consistent;
+            kept = sales_are_kept c.args.rules.now.editions old.now.trees c.args.member c.requires.numbered (c.in_ok-sold.ensures.kept before)
+                (subst (λ (db : Database). RowsAreKept c.args.rules.now.editions (λ (row : ItemRow). is_leader row.item.terms.leader c.args.member) db.trees) same (c.in_ok-led.ensures.kept clean));
           }));
       damaged = λ clean _. c.sales_of.ensures.memory;
       read = search rules;

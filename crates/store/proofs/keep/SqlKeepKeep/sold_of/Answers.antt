@@ -7,7 +7,8 @@ use Rattle.store_rows.specs.Tables.{tables_in}
 use Rattle.house_rows.specs.Keeping.{FitsBy}
 use Rattle.house_rows.specs.Taken.{FitWhere, may_be_party}
 use Rattle.store_rows.specs.ItemRows.{items_in}
-use Rattle.store.proofs.Known.{all_are_consistent, known_serves, known_where, works, failed_look}
+use Rattle.store.proofs.AbsentLists.{no_sold_kept}
+use Rattle.store.proofs.Known.{all_are_consistent, all_are_kept, known_serves, known_where, works, failed_look}
 use Rattle.store.proofs.keep.SqlKeepKeep.sold_of.Goals as goal
 
 pub sales_to-requires : goal.sales_to-requires
@@ -31,3 +32,15 @@ returns-in-Ok-sales_to-clause-is_consistent g c = λ honest.
     let before : HasCleanDisk (state g.S.Store c.self.inside.conn) = omega (arith, c.in-Ok-sales_to.ensures.finds.read.crash.clean, honest) in
     let same : c.in-Ok.member ≡ c.args.member = search rules in
     rw (← c.self.view_is, ← same) (all_are_consistent _ _ _ _ _ (c.self.invariant.known (works _ _ c.self.view_is c.in_ok-serves.ensures.ok) before) _ (c.in-Ok-sales_to.ensures.finds.value honest).is_consistent)
+
+pub returns-in-Ok-sales_to-clause-kept : goal.returns-in-Ok-sales_to-clause-kept
+unfolding tables_in
+returns-in-Ok-sales_to-clause-kept g c = λ honest.
+    let before : HasCleanDisk (state g.S.Store c.self.inside.conn) = omega (arith, c.in-Ok-sales_to.ensures.finds.read.crash.clean, honest) in
+    let same : c.in-Ok.member ≡ c.args.member = search rules in
+    rw (← c.self.view_is, ← same) (all_are_kept _ _ _ _ _ (c.self.invariant.known (works _ _ c.self.view_is c.in_ok-serves.ensures.ok) before) _ (c.in-Ok-sales_to.ensures.finds.value honest).kept)
+
+pub returns-in_default-clause-kept : goal.returns-in_default-clause-kept
+unfolding tables_in
+returns-in_default-clause-kept g c = λ honest.
+    rw (← c.self.view_is) (no_sold_kept (state g.S.Store c.self.inside.conn).now.trees c.args.member (search rules) (search rules))

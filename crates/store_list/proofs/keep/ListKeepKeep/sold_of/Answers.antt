@@ -4,7 +4,7 @@ use Rattle.settle.specs.Statement.{IsSale}
 use Rattle.settle.specs.declared.sale.Sold.{Sold}
 use Rattle.house_rows.specs.Keeping.{AreSound}
 use Rattle.house_rows.specs.Limits.{most_items}
-use Rattle.store_list.proofs.Fitting.{ok_items, all_are_consistent, ok_so}
+use Rattle.store_list.proofs.Fitting.{ok_items, all_are_consistent, all_are_kept, ok_so}
 use Rattle.store_list.proofs.Led.{leads_among, sold_led}
 use Rattle.store_list.proofs.Parties.{sales_to_apart, sales_to_few, sales_to_fit}
 use Rattle.store_list.proofs.keep.ListKeepKeep.sold_of.Goals as goal
@@ -38,3 +38,6 @@ returns-clause-few c = ok_items (λ xs. length xs ≤ most_items) c.sales_of.res
 
 pub returns-clause-is_consistent : goal.returns-clause-is_consistent
 returns-clause-is_consistent c = λ _. ok_so c.sales_of.result (all_are_consistent c.args.self.now _ (subst AreSound c.self.view_is c.self.invariant.sound))
+
+pub returns-clause-kept : goal.returns-clause-kept
+returns-clause-kept c = λ _. ok_so c.sales_of.result (all_are_kept c.args.self.now _ (subst AreSound c.self.view_is c.self.invariant.sound))
