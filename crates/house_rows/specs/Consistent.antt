@@ -1,6 +1,6 @@
 -- That what a look-up of a keep found is consistent, each item with its own band table; and that what is sealed of the items
 -- that it took goes with what is shown.
-use Rattle.std.specs.Prelude.{ℕ, Option, Vec, IfOk, IfSome, OnOk, Result}
+use Rattle.std.specs.Prelude.{◌==◌, ℕ, Option, Vec, IfOk, IfSome, OnOk, Result}
 use Rattle.std.specs.List.{AllByRecursion, list_any}
 use Rattle.settle.specs.Statement.{is_party}
 use Rattle.house_rows.specs.declared.auction.Auction.{Auction}
@@ -36,6 +36,10 @@ OwnBidsConsistent t result =
 abbrev pub AskedConsistent : {Z : Type 0} → Tables → Result (Vec Question Z) KeepFault → Type 0
 AskedConsistent t result =
     IfOk result (λ v. AllByRecursion (λ q. IsConsistentAt t q.item) v.items)
+
+-- every item that a member sells, each of which is taken before the first question
+abbrev pub SellerKept : {A : Type 0} → ℕ → Tables → Result A KeepFault → Type 0
+SellerKept member t result = OnOk result (AllKept (λ row. row.item.terms.seller == member) t)
 
 -- every item that is due at a moment
 abbrev pub DueConsistent : {A : Type 0} → ℕ → Tables → Result A KeepFault → Type 0

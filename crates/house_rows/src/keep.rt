@@ -4,7 +4,7 @@ ghost use Rattle.std.specs.List.{AllByRecursion};
 ghost use Rattle.settle.specs.Statement.{IsSale};
 ghost use Rattle.house_rows.specs.Answered.{IsAnswered};
 ghost use Rattle.house_rows.specs.Asks.{ChangeFits};
-ghost use Rattle.house_rows.specs.Consistent.{AskedConsistent, AuctionConsistent, DueConsistent, DueKept, ItemConsistent, ItemsConsistent, OwnBidsConsistent, SalesConsistent, SalesKept, TermsConsistent};
+ghost use Rattle.house_rows.specs.Consistent.{AskedConsistent, AuctionConsistent, DueConsistent, DueKept, ItemConsistent, ItemsConsistent, OwnBidsConsistent, SalesConsistent, SalesKept, SellerKept, TermsConsistent};
 ghost use Rattle.house_rows.specs.Fits.{CategoryFits, FeedbackFits, IsItem, IsMember, IsMoment, IsWithin, ItemFits, MemberFits, OwnBidFits, OwnReserveFits, QuestionFits, StandingFits, TermsFit};
 ghost use Rattle.house_rows.specs.Found.{all_items, all_published, ask_count, auction_at, best_of, category_at, category_named, counts_of, due_at, feedback_to, first_waiting, is_given, is_watched, item_at, item_with_lot, items_in, items_watched, member_named, own_bids, own_reserves, published_on, question_at, questions_of, reserve_at, row_at, sales_to, standing_at, terms_at, waiting_for, watch_count};
 ghost use Rattle.house_rows.specs.Keeping.{AreKeptWatched, AreSound, IsKeptRow, RowFits};
@@ -292,14 +292,16 @@ pub trait Keep {
         ensures answers { IsAnswered content is_failed is_honest may_leave self.old self.new result
             (λ t v. v.items ≡ waiting_for t member) (AllWaitingFit member) }
         ensures fits { IfOk result (λ v. AllByRecursion QuestionFits v.items) }
-        ensures is_consistent { is_honest self.new → AskedConsistent (content self.old) result };
+        ensures is_consistent { is_honest self.new → AskedConsistent (content self.old) result }
+        ensures kept { is_honest self.new → SellerKept member (content self.old) result };
 
     /// At most fifty of the questions that wait for a member's answer, by item, asker and number.
     fn first_waiting(&mut self, member: u64) -> Result<Vec<Question>, KeepFault>
         ensures answers { IsAnswered content is_failed is_honest may_leave self.old self.new result
             (λ t v. v.items ≡ first_waiting t member) (FirstWaitingFit member) }
         ensures fits { IfOk result (λ v. AllByRecursion QuestionFits v.items) }
-        ensures is_consistent { is_honest self.new → AskedConsistent (content self.old) result };
+        ensures is_consistent { is_honest self.new → AskedConsistent (content self.old) result }
+        ensures kept { is_honest self.new → SellerKept member (content self.old) result };
 
     /// The sales to which a member is a party, by item.
     fn sold_of(&mut self, member: u64) -> Result<Vec<Sold>, KeepFault>

@@ -171,3 +171,7 @@ module _ (db : Trees) (n : ℕ) (high : 2 ^ 32 ≤ n) (low : n < 2 ^ 64) where
   no_sold_kept =
       none_party (IsKeptRow (tables_in db)) (stored.items_in db) n high sellers_other
       (each_fails (λ (row : ItemRow). is_leader row.item.terms.leader n) (stored.items_in db) (no_items_led db n high low))
+
+  pub no_seller_kept : AllKept (λ (row : ItemRow). row.item.terms.seller == n) (tables_in db)
+  unfolding tables_in
+  no_seller_kept = subst (AllByRecursion (IsKeptRow (tables_in db))) (sym (no_items_of db n high low)) tt

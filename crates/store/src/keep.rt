@@ -451,7 +451,7 @@ impl<S: Alter> Keep for SqlKeep<S> {
         )
     }
 
-    #[tactic(auto, using(crate::proofs::AbsentLists::no_waiting))]
+    #[tactic(auto, using(crate::proofs::AbsentLists::no_waiting, crate::proofs::AbsentLists::no_seller_kept))]
     fn waiting_for(&mut self, member: u64) -> Result<Vec<Question>, KeepFault> {
         self.serves()?;
         let Ok(member) = u32::try_from(member) else {
@@ -461,7 +461,7 @@ impl<S: Alter> Keep for SqlKeep<S> {
         report!(self, waiting_for(self.alloc, &mut self.conn, rules, member))
     }
 
-    #[tactic(auto, using(crate::proofs::AbsentLists::no_first_waiting))]
+    #[tactic(auto, using(crate::proofs::AbsentLists::no_first_waiting, crate::proofs::AbsentLists::no_seller_kept))]
     fn first_waiting(&mut self, member: u64) -> Result<Vec<Question>, KeepFault> {
         self.serves()?;
         let Ok(member) = u32::try_from(member) else {

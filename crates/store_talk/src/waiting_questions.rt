@@ -1,7 +1,8 @@
 //! The questions that wait for a member's answer.
-ghost use Rattle.std.specs.Prelude.{◌≡◌, ◌≤◌, ◌++◌, flat_map, length, take, IfOk, OnOk};
+ghost use Rattle.std.specs.Prelude.{◌≡◌, ◌==◌, ◌≤◌, ◌++◌, flat_map, length, take, IfOk, OnOk};
 ghost use Rattle.std.specs.List.{AllByRecursion};
 ghost use Rattle.sqlite.specs.Held.{state};
+ghost use Rattle.sqlite.specs.State.{HasCleanDisk};
 ghost use Rattle.house_rows.specs.Fits.{QuestionFits};
 ghost use Rattle.house_rows.specs.Found.{first_waiting, waiting_for};
 ghost use Rattle.house_rows.specs.Limits.{most_shown};
@@ -9,6 +10,7 @@ ghost use Rattle.house_rows.specs.declared.item.Terms.{Terms as TermsRow};
 ghost use Rattle.store_rows.specs.House.{Serves, ServesBy};
 ghost use Rattle.store_rows.specs.Tables.{tables_in};
 ghost use Rattle.store_rows.specs.Frames.{Finds};
+ghost use Rattle.store_items.specs.ConsistentRows.{RowsAreKept};
 ghost use Rattle.store_talk.specs.Waiting.{AllWaitingFit, AreWaiting, FirstWaitingFit, waiting_in, WaitingFit, WaitingInTurn};
 
 use crate::question_lists::waiting_on;
@@ -71,6 +73,9 @@ pub fn waiting_for<S: Alter>(
         AreWaiting rules.now.editions db (waiting_for (tables_in db) member) asked.items)
         (AllWaitingFit rules.now.editions member) }
     ensures fits { IfOk result (λ asked. AllByRecursion QuestionFits asked.items) }
+    ensures kept { HasCleanDisk (state S.Store conn.new)
+        → OnOk result (RowsAreKept rules.now.editions (λ row. row.item.terms.seller == member)
+        (state S.Store conn.old).now.trees) }
 {
     let own = terms_of_seller(alloc, conn, rules, member)?;
     waiting_on_each(alloc, conn, &own)
@@ -140,6 +145,9 @@ pub fn first_waiting<S: Alter>(
         AreWaiting rules.now.editions db (first_waiting (tables_in db) member) asked.items)
         (FirstWaitingFit rules.now.editions member) }
     ensures fits { IfOk result (λ asked. AllByRecursion QuestionFits asked.items) }
+    ensures kept { HasCleanDisk (state S.Store conn.new)
+        → OnOk result (RowsAreKept rules.now.editions (λ row. row.item.terms.seller == member)
+        (state S.Store conn.old).now.trees) }
 {
     let own = terms_of_seller(alloc, conn, rules, member)?;
     first_on_each(alloc, conn, &own)

@@ -7,6 +7,7 @@ use Rattle.house_rows.specs.declared.talk.Question.{Question}
 use Rattle.store_rows.proofs.StateLemmas.{ok_then}
 use Rattle.store_talk.specs.Waiting.{WaitingFit, waiting_in}
 use Rattle.store_items.specs.ConsistentRows.{ItemIsConsistent}
+use Rattle.store_items.proofs.ConsistentRows.{ok_so}
 use Rattle.store_talk.proofs.WaitingStanding.{waiting_are_consistent}
 use Rattle.store_rows.proofs.Steps.{clean_before}
 use Rattle.store_talk.proofs.WaitingItems.{waiting_fit_at, waiting_found}
@@ -56,3 +57,8 @@ returns-clause-finds g c =
           (subst (AllByRecursion (λ (t : Terms). WaitingFit old.now.trees t.item)) (sym same) here)));
       read = search rules;
     }
+
+pub returns-clause-kept : goal.returns-clause-kept
+returns-clause-kept g c = λ clean.
+    let before = clean_before (state g.S.Store c.terms_of_seller.new.conn) (state g.S.Store c.waiting_on_each.new.conn) c.waiting_on_each.ensures.finds.read.crash clean in
+    ok_so c.waiting_on_each.result (c.in_ok-own.ensures.kept before)

@@ -4,7 +4,7 @@ use Rattle.std.specs.List.{AllByRecursion}
 use Rattle.house_rows.specs.Changed.{is_item}
 use Rattle.house_rows.specs.Fits.{QuestionFits}
 use Rattle.house_rows.specs.Found.{sells}
-use Rattle.store_list.proofs.Fitting.{filter_fits, ok_items, ok_each, is_consistent_at}
+use Rattle.store_list.proofs.Fitting.{filter_fits, ok_items, ok_each, ok_so, is_consistent_at, all_are_kept}
 use Rattle.store_list.proofs.Waiting.{own_complete, risen}
 use Rattle.house_rows.specs.declared.talk.Question.{Question}
 use Rattle.house_rows.specs.Keeping.{AreSound, IsConsistentAt}
@@ -31,3 +31,6 @@ returns-clause-fits c =
 
 pub returns-clause-is_consistent : goal.returns-clause-is_consistent
 returns-clause-is_consistent c = λ _. ok_each (λ (q : Question). IsConsistentAt c.args.self.now q.item) c.waiting_on.result (λ q. is_consistent_at c.args.self.now (subst AreSound c.self.view_is c.self.invariant.sound) q.item)
+
+pub returns-clause-kept : goal.returns-clause-kept
+returns-clause-kept c = λ _. ok_so c.waiting_on.result (all_are_kept c.args.self.now _ (subst AreSound c.self.view_is c.self.invariant.sound))
