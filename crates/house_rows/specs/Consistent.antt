@@ -10,7 +10,7 @@ use Rattle.house_rows.specs.declared.item.OwnBid.{OwnBid}
 use Rattle.house_rows.specs.declared.item.Terms.{Terms}
 use Rattle.house_rows.specs.declared.talk.Question.{Question}
 use Rattle.house_rows.specs.Items.{is_due}
-use Rattle.house_rows.specs.Keeping.{AllConsistent, AllKept, IsConsistentAt, IsConsistentIn}
+use Rattle.house_rows.specs.Keeping.{AllConsistent, AllKept, IsConsistentAt, IsConsistentIn, IsKeptRowAt}
 use Rattle.house_rows.specs.Pages.{sale_of}
 use Rattle.house_rows.specs.Tables.{Tables}
 
@@ -31,6 +31,10 @@ ItemsConsistent t result =
 abbrev pub OwnBidsConsistent : {Z : Type 0} → Tables → Result (Vec OwnBid Z) KeepFault → Type 0
 OwnBidsConsistent t result =
     IfOk result (λ v. AllByRecursion (λ b. IsConsistentAt t b.item) v.items)
+
+abbrev pub OwnBidsKept : {Z : Type 0} → Tables → Result (Vec OwnBid Z) KeepFault → Type 0
+OwnBidsKept t result =
+    IfOk result (λ v. AllByRecursion (λ b. IsKeptRowAt t b.item) v.items)
 
 -- the items of questions
 abbrev pub AskedConsistent : {Z : Type 0} → Tables → Result (Vec Question Z) KeepFault → Type 0

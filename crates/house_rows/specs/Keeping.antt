@@ -98,6 +98,10 @@ IsKeptRowBy editions row = IsKeptItemBy editions row.item.terms row.standing
 abbrev pub IsKeptRow : Tables → ItemRow → Type 0
 IsKeptRow t row = IsKeptRowBy (band_tables t) row
 
+-- so of the row of an item, if there is one
+abbrev pub IsKeptRowAt : Tables → ℕ → Type 0
+IsKeptRowAt t item = IfSome (row_at t item) (IsKeptRow t)
+
 -- so of every item's row that passes a test
 abbrev pub AllKept : (ItemRow → Bool) → Tables → Type 0
 AllKept test t = AllByRecursion (IsKeptRow t) (filter test t.items)

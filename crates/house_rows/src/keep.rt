@@ -4,7 +4,7 @@ ghost use Rattle.std.specs.List.{AllByRecursion};
 ghost use Rattle.settle.specs.Statement.{IsSale};
 ghost use Rattle.house_rows.specs.Answered.{IsAnswered};
 ghost use Rattle.house_rows.specs.Asks.{ChangeFits};
-ghost use Rattle.house_rows.specs.Consistent.{AskedConsistent, AuctionConsistent, DueConsistent, DueKept, ItemConsistent, ItemsConsistent, OwnBidsConsistent, SalesConsistent, SalesKept, SellerKept, TermsConsistent};
+ghost use Rattle.house_rows.specs.Consistent.{AskedConsistent, AuctionConsistent, DueConsistent, DueKept, ItemConsistent, ItemsConsistent, OwnBidsConsistent, OwnBidsKept, SalesConsistent, SalesKept, SellerKept, TermsConsistent};
 ghost use Rattle.house_rows.specs.Fits.{CategoryFits, FeedbackFits, IsItem, IsMember, IsMoment, IsWithin, ItemFits, MemberFits, OwnBidFits, OwnReserveFits, QuestionFits, StandingFits, TermsFit};
 ghost use Rattle.house_rows.specs.Found.{all_items, all_published, ask_count, auction_at, best_of, category_at, category_named, counts_of, due_at, feedback_to, first_waiting, is_given, is_watched, item_at, item_with_lot, items_in, items_watched, member_named, own_bids, own_reserves, published_on, question_at, questions_of, reserve_at, row_at, sales_to, standing_at, terms_at, waiting_for, watch_count};
 ghost use Rattle.house_rows.specs.Keeping.{AreKeptWatched, AreSound, IsKeptRow, RowFits};
@@ -211,7 +211,8 @@ pub trait Keep {
         ensures answers { IsAnswered content is_failed is_honest may_leave self.old self.new result
             (λ t v. v.items ≡ own_bids t member from) (OwnBidsFit member from) }
         ensures fits { IfOk result (λ v. AllByRecursion OwnBidFits v.items) }
-        ensures is_consistent { is_honest self.new → OwnBidsConsistent (content self.old) result };
+        ensures is_consistent { is_honest self.new → OwnBidsConsistent (content self.old) result }
+        ensures kept { is_honest self.new → OwnBidsKept (content self.old) result };
 
     /// The reserve of an item, which is sealed.
     fn reserve(&mut self, item: u64) -> Result<Option<Cents>, KeepFault>

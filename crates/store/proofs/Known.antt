@@ -6,7 +6,7 @@ use Rattle.std.specs.Prelude.{◌==◌, ◌&&◌, ◌↔◌, Err, IfSome, IsErrO
 use Rattle.std.proofs.lemmas.Bool.Decides.{nat_tests}
 use Rattle.std.specs.List.{AllByRecursion}
 use Rattle.sqlite_trees.specs.Tree.{Trees}
-use Rattle.house_rows.specs.Keeping.{AllConsistent, AllKept, AreSound, AreSoundBy, Faults, FitsBy, RowFits, IsConsistentAt, IsConsistentBy, IsConsistentIn, IsKeptItemBy, IsKeptRow, IsKeptRowBy, IsRead}
+use Rattle.house_rows.specs.Keeping.{AllConsistent, AllKept, AreSound, AreSoundBy, Faults, FitsBy, RowFits, IsConsistentAt, IsConsistentBy, IsConsistentIn, IsKeptItemBy, IsKeptRow, IsKeptRowAt, IsKeptRowBy, IsRead}
 use Rattle.house_rows.specs.Taken.{FitWhere}
 use Rattle.house_rows.specs.Editions.{BandTables}
 use Rattle.proxy.specs.Kept.{Kept}
@@ -27,7 +27,7 @@ use Rattle.store_rows.specs.ItemRows.{items_in}
 use Rattle.store_rows.specs.Tables.{tables_in}
 use Rattle.store_items.specs.Seen.{IsThere}
 use Rattle.store.proofs.Remembered.{seen_there}
-use Rattle.store_items.specs.ConsistentRows.{ItemIsConsistent, RowFitsAt, RowsAreConsistent, RowsAreKept}
+use Rattle.store_items.specs.ConsistentRows.{ItemIsConsistent, ItemStands, RowFitsAt, RowsAreConsistent, RowsAreKept}
 use Rattle.store_rows.proofs.Sound.{rows_fit}
 use Rattle.store_items.proofs.Auctions.{terms_none as no_terms, terms_some as auction_terms}
 use Rattle.sqlite_trees.specs.declared.store.Store.{Ghosts}
@@ -128,6 +128,15 @@ module _ {seen : Option Auction} (db : Trees) (editions : BandTables) (reserves 
   -- so of what names an item
   pub each_is_consistent : {A : Type 0} (item : A → ℕ) (xs : List A) → AllByRecursion (λ x. ItemIsConsistent editions db (item x)) xs → AllByRecursion (λ x. IsConsistentAt (tables_in db) (item x)) xs
   each_is_consistent {A} item xs = subst (λ (b : BandTables). AllByRecursion (λ (x : A). ItemIsConsistent b db (item x)) xs) (sym known.editions_are)
+
+  -- and of what names an item that is consistent also with what is sealed
+  pub each_stands : {A : Type 0} (item : A → ℕ) (xs : List A) → AllByRecursion (λ x. ItemStands editions db (item x)) xs → AllByRecursion (λ x. IsConsistentAt (tables_in db) (item x)) xs
+  each_stands {A} item xs all =
+      each_is_consistent item xs (every_as (λ (x : A). ItemStands editions db (item x)) (λ (x : A). ItemIsConsistent editions db (item x)) xs (λ x stands. stands.is_consistent) all)
+
+  pub each_is_kept : {A : Type 0} (item : A → ℕ) (xs : List A) → AllByRecursion (λ x. ItemStands editions db (item x)) xs → AllByRecursion (λ x. IsKeptRowAt (tables_in db) (item x)) xs
+  each_is_kept {A} item xs all =
+      every_as (λ (x : A). ItemStands editions db (item x)) (λ (x : A). IsKeptRowAt (tables_in db) (item x)) xs (λ x stands. row_is_kept (item x) stands.kept) all
 
 -- what was seen is so by band tables that are those of the tables
 pub seen_by : (db : Trees) (editions : BandTables) (seen : Option Auction) → editions ≡ band_tables (tables_in db)

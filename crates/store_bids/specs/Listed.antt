@@ -9,7 +9,7 @@ use Rattle.house_rows.specs.Limits.{most_shown}
 use Rattle.house_rows.specs.declared.item.OwnBid.{OwnBid}
 use Rattle.store_rows.specs.Joined.{found_of}
 use Rattle.store_rows.specs.Tables.{tables_in}
-use Rattle.store_items.specs.ConsistentRows.{ItemIsConsistent}
+use Rattle.store_items.specs.ConsistentRows.{ItemStands}
 use Rattle.store_bids.specs.OwnBids.{found_from, own_found}
 use Rattle.store_bids.specs.Reached.{FitFrom}
 
@@ -17,14 +17,14 @@ use Rattle.store_bids.specs.Reached.{FitFrom}
 abbrev pub OwnBidsFit : ℕ → ℕ → List BidRow → Type 0
 OwnBidsFit member item bids = AllByRecursion (λ (b : BidRow). b.bid.member ≡ member → b.item ≡ item → BidRowFits b) bids
 
--- the items of which these tell are consistent, if they are there
+-- the items of which these tell are consistent, if they are there, also with what is sealed of them
 abbrev pub ItemsAreConsistent : BandTables → Trees → List OwnBid → Type 0
-ItemsAreConsistent editions db bids = AllByRecursion (λ (b : OwnBid). ItemIsConsistent editions db b.item) bids
+ItemsAreConsistent editions db bids = AllByRecursion (λ (b : OwnBid). ItemStands editions db b.item) bids
 
 -- what a member has bid on an item, if it has
 pub record IsOwnBid (editions : BandTables) (member item : ℕ) (db : Trees) (bid : Option OwnBid) : Type 0 where
   pub value : found_of bid ≡ own_found (tables_in db) member item
-  pub is_consistent : IfSome bid (λ b. ItemIsConsistent editions db b.item)
+  pub is_consistent : IfSome bid (λ b. ItemStands editions db b.item)
 
 -- what is found is what was looked for
 pub record AreOwnBids (editions : BandTables) (db : Trees) (found wanted : List OwnBid) : Type 0 where

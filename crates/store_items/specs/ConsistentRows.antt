@@ -35,6 +35,11 @@ RowFitsAt editions db item = AllByRecursion (λ row. row.item.terms.item ≡ ite
 abbrev pub IsKeptAt : BandTables → Trees → ℕ → Type 0
 IsKeptAt editions db item = IfSome (find (is_item item) (items_in db)) (IsKeptRowBy editions)
 
+-- the item of a number is consistent, if there is one, also with what is sealed
+pub record ItemStands (editions : BandTables) (db : Trees) (item : ℕ) : Type 0 where
+  pub is_consistent : ItemIsConsistent editions db item
+  pub kept : IsKeptAt editions db item
+
 -- there is an item of a number, whose row fits and is consistent, also with what is sealed
 pub record HasStandingItem (editions : BandTables) (db : Trees) (item : ℕ) : Type 0 where
   pub row : ItemRow

@@ -49,7 +49,10 @@ returns-clause-finds g c = record {
       let found = c.own_bid.ensures.value ∙ bid_found db c.args.member c.args.item c.in_ok-terms.terms c.in_ok-best.best terms best in
       record {
         value = found;
-        is_consistent = bid_is_consistent editions db c.args.member c.args.item c.own_bid.result found (terms_in editions db c.args.item c.in_ok-terms.terms terms c.in_ok-terms.ensures.is_consistent);
+        is_consistent = bid_is_consistent editions db c.args.member c.args.item c.own_bid.result found (record {
+          is_consistent = terms_in editions db c.args.item c.in_ok-terms.terms terms c.in_ok-terms.ensures.is_consistent;
+          kept = c.in_ok-terms.ensures.kept before;
+        });
       });
   damaged = search rules;
   read = search rules;

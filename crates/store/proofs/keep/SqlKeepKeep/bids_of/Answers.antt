@@ -6,7 +6,7 @@ use Rattle.house_rows.specs.declared.item.OwnBid.{OwnBid}
 use Rattle.house_rows.specs.Reached.{FitsSoFar}
 use Rattle.store_rows.specs.Tables.{tables_in}
 use Rattle.store_bids.proofs.InTurn.{all_fit}
-use Rattle.store.proofs.Known.{each_is_consistent, known_serves, known_so_far, known_sound, not_reported, report_sound, works}
+use Rattle.store.proofs.Known.{each_is_kept, each_stands, known_serves, known_so_far, known_sound, not_reported, report_sound, works}
 use Rattle.store.proofs.keep.SqlKeepKeep.bids_of.Goals as goal
 
 pub own_bids-requires : goal.own_bids-requires
@@ -32,4 +32,9 @@ returns-in-Err-clause-answers g c = record {
 pub returns-in-Ok-own_bids-clause-is_consistent : goal.returns-in-Ok-own_bids-clause-is_consistent
 returns-in-Ok-own_bids-clause-is_consistent g c = λ honest.
     let before : HasCleanDisk (state g.S.Store c.self.inside.conn) = omega (arith, c.in-Ok-own_bids.ensures.finds.read.crash.clean, honest) in
-    rw (← c.self.view_is) (each_is_consistent _ _ _ _ _ (c.self.invariant.known (works _ _ c.self.view_is c.in_ok-serves.ensures.ok) before) (λ (b : OwnBid). b.item) _ (c.in-Ok-own_bids.ensures.finds.value honest).is_consistent)
+    rw (← c.self.view_is) (each_stands _ _ _ _ _ (c.self.invariant.known (works _ _ c.self.view_is c.in_ok-serves.ensures.ok) before) (λ (b : OwnBid). b.item) _ (c.in-Ok-own_bids.ensures.finds.value honest).is_consistent)
+
+pub returns-in-Ok-own_bids-clause-kept : goal.returns-in-Ok-own_bids-clause-kept
+returns-in-Ok-own_bids-clause-kept g c = λ honest.
+    let before : HasCleanDisk (state g.S.Store c.self.inside.conn) = omega (arith, c.in-Ok-own_bids.ensures.finds.read.crash.clean, honest) in
+    rw (← c.self.view_is) (each_is_kept _ _ _ _ _ (c.self.invariant.known (works _ _ c.self.view_is c.in_ok-serves.ensures.ok) before) (λ (b : OwnBid). b.item) _ (c.in-Ok-own_bids.ensures.finds.value honest).is_consistent)

@@ -1,8 +1,8 @@
 use Rattle.std.proofs.Common.{refl, subst, rules}
 use Rattle.std.specs.List.{AllByRecursion}
 use Rattle.house_rows.specs.Fits.{OwnBidFits}
-use Rattle.house_rows.specs.Keeping.{AreSound, IsConsistentAt}
-use Rattle.store_list.proofs.Fitting.{ok_items, own_bids_fit, ok_each, is_consistent_at}
+use Rattle.house_rows.specs.Keeping.{AreSound, IsConsistentAt, IsKeptRowAt}
+use Rattle.store_list.proofs.Fitting.{ok_items, own_bids_fit, ok_each, is_consistent_at, kept_at}
 use Rattle.house_rows.specs.declared.item.OwnBid.{OwnBid}
 use Rattle.store_list.proofs.keep.ListKeepKeep.bids_of.Goals as goal
 
@@ -23,3 +23,6 @@ returns-clause-fits c = (ok_items (λ xs. AllByRecursion OwnBidFits xs) c.own_bi
 
 pub returns-clause-is_consistent : goal.returns-clause-is_consistent
 returns-clause-is_consistent c = λ _. ok_each (λ (b : OwnBid). IsConsistentAt c.args.self.now b.item) c.own_bids.result (λ b. is_consistent_at c.args.self.now (subst AreSound c.self.view_is c.self.invariant.sound) b.item)
+
+pub returns-clause-kept : goal.returns-clause-kept
+returns-clause-kept c = λ _. ok_each (λ (b : OwnBid). IsKeptRowAt c.args.self.now b.item) c.own_bids.result (λ b. kept_at c.args.self.now (subst AreSound c.self.view_is c.self.invariant.sound) b.item)
