@@ -216,8 +216,10 @@ pub trait Keep {
 
     /// The reserve of an item, which is sealed.
     fn reserve(&mut self, item: u64) -> Result<Option<Cents>, KeepFault>
-        ensures { IsAnswered content is_failed is_honest may_leave self.old self.new result
-            (λ t v. v ≡ reserve_at t item) (ItemFitsAt item) };
+        ensures answers { IsAnswered content is_failed is_honest may_leave self.old self.new result
+            (λ t v. v ≡ reserve_at t item) (ItemFitsAt item) }
+        ensures kept { is_honest self.new → OnOk result
+            (IfSome (row_at (content self.old) item) (IsKeptRow (content self.old))) };
 
     /// A member's reserves on what it sells, from an item on; at most fifty.
     fn reserves_of(&mut self, member: u64, from: u64) -> Result<Vec<OwnReserve>, KeepFault>

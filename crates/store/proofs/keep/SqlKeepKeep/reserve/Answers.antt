@@ -1,8 +1,8 @@
 use Rattle.std.proofs.Common.{rules}
 use Rattle.store.proofs.keep.SqlKeepKeep.reserve.Goals as goal
 
-pub returns-in_err-standing : goal.returns-in_err-standing
-returns-in_err-standing g c = record {
+pub returns-in_err-standing-clause-answers : goal.returns-in_err-standing-clause-answers
+returns-in_err-standing-clause-answers g c = record {
   value = search rules;
   faults = record {
     store = search rules;
