@@ -31,8 +31,9 @@ use settle::Sold;
 ///
 /// The number of a row that isn't there finds nothing. Lists of at most fifty are those that begin
 /// at a number. A look-up or a list is `Damaged` only where a row that it takes doesn't fit, whatever
-/// else is wrong with the tables. What stands last in its `IsAnswered` says which rows these are. Of an
-/// item that is found what is sealed goes with what is shown, or the look-up is `Damaged`.
+/// else is wrong with the tables. What stands last in its `IsAnswered` says which rows these are.
+/// Of each item whose terms, standing or reserve it takes, what is sealed goes with what is shown, or
+/// it is `Damaged`: `kept`.
 pub trait Keep {
     /// The tables.
     ghost content: { Self → Tables };
