@@ -20,7 +20,7 @@ use Rattle.pages_text.specs.declared.fault.PageFault.{PageFault}
 use Rattle.pages_text.specs.Faults.{PageFaults}
 use Rattle.pages_text.specs.Fits.{PageFits}
 use Rattle.pages.specs.Showing.{BeginsWith, IsGrown, IsReported}
-use Rattle.pages.specs.Taken.{IsTreeUndamaged, PageRowsFit}
+use Rattle.pages.specs.Taken.{IsTreeUndamaged, PageRowsFit, ReadRowsFit}
 
 -- What is promised of the page that a query has in the tables, as `page_in` says it. As long as the
 -- disk returns what was written, it is that page, and the call is `Damaged` only where rows that the
@@ -36,7 +36,8 @@ pub record MakesPage {K : Type 0} (keep : Ghosts K) (old new : K) (result : Resu
       → IsUndamaged result
   pub read : Reads keep old new
 
--- The same of the page of a read: over any tables, of a history or not, and over a history.
+-- The same of the page of a read: over any tables, of a history or not, and over a history. It is
+-- `Damaged` only where the caller may read, and rows that the page takes don't fit.
 pub record ReadsPage {K : Type 0} (keep : Ghosts K) (old new : K) (result : Result Page KeepFault)
     (caller : ℕ) (query : Query) : Type 0 where
   pub tables : keep.is_honest new
@@ -46,7 +47,7 @@ pub record ReadsPage {K : Type 0} (keep : Ghosts K) (old new : K) (result : Resu
       → IfOk result (λ page. page ≡ page_of settings h caller query)
   pub fits : IfOk result PageFits
   pub faults : Faults result (keep.is_honest new) (keep.is_failed new) (keep.content old)
-  pub damaged : keep.is_honest new → PageRowsFit (keep.content old) caller query
+  pub damaged : keep.is_honest new → ReadRowsFit (keep.content old) caller query
       → IsUndamaged result
   pub read : Reads keep old new
 
@@ -65,7 +66,7 @@ pub record ShowsPage {K : Type 0} (keep : Ghosts K) (old new : K)
   pub refused : IfOk result (λ report. OnErr report (after ≡ before))
   pub front : IfOk result (λ report. OnOk report (BeginsWith before after))
   pub faults : Faults result (keep.is_honest new) (keep.is_failed new) (keep.content old)
-  pub damaged : keep.is_honest new → PageRowsFit (keep.content old) caller query
+  pub damaged : keep.is_honest new → ReadRowsFit (keep.content old) caller query
       → IsUndamaged result
   pub read : Reads keep old new
 
@@ -79,6 +80,6 @@ pub record GrowsPage {K : Type 0} (keep : Ghosts K) (old new : K)
       → keep.content old ≡ tables_of settings h
       → IfOk result (IsGrown zone (page_of settings h caller query))
   pub faults : PageFaults result (keep.is_honest new) (keep.is_failed new) (keep.content old)
-  pub damaged : keep.is_honest new → PageRowsFit (keep.content old) caller query
+  pub damaged : keep.is_honest new → ReadRowsFit (keep.content old) caller query
       → IsTreeUndamaged result
   pub read : Reads keep old new

@@ -1,5 +1,5 @@
 -- Which rows a page takes: that these fit is enough for its read not to be damaged.
-use Rattle.std.specs.Prelude.{ℕ, Result, IsErrOf}
+use Rattle.std.specs.Prelude.{◌≡◌, ℕ, length, true, Result, IsErrOf}
 use Rattle.std.specs.List.{AllByRecursion}
 use Rattle.house_rows.specs.declared.fault.KeepFault.TheVariants.{Damaged}
 use Rattle.house_rows.specs.declared.query.Query.{Query}
@@ -9,6 +9,7 @@ use Rattle.house_rows.specs.Tables.{Tables}
 use Rattle.house_rows.specs.Taken.{CategoryFitsAt, CategoryItemsFit, FeedbackFitsTo, FirstAskedFit, FirstGivenFit}
 use Rattle.house_rows.specs.Taken.{FirstPublishedFit, FirstWaitingFit, ItemFitsAt, MemberFitsAt, OwnBidsFit}
 use Rattle.house_rows.specs.Taken.{OwnReservesFit, SalesFit, WatchedFit}
+use Rattle.pages_laws.specs.ByTables.{is_own, may_read}
 use Rattle.pages_text.specs.declared.fault.PageFault.{PageFault}
 use Rattle.pages_text.specs.declared.fault.PageFault.TheVariants.{Keep}
 
@@ -38,6 +39,11 @@ PageRowsFit t caller query.MyWatches = WatchedFit caller t
 PageRowsFit t caller (query.MyQuestions from) = FirstAskedFit caller from t
 PageRowsFit t caller query.MyWaiting = FirstWaitingFit caller t
 PageRowsFit t caller (query.MyStatement from to) = SalesFit caller t
+
+-- the rows that a read takes fit: those of its page, where the caller may read it. A read that is
+-- refused takes none
+pub record ReadRowsFit (t : Tables) (caller : ℕ) (query : Query) : Type 0 where
+  pub page : may_read (length t.members) caller (is_own query) ≡ true → PageRowsFit t caller query
 
 -- the keep isn't damaged, by the answer for a tree
 abbrev pub IsTreeUndamaged : {A : Type 0} → Result A PageFault → Type 0

@@ -1,7 +1,9 @@
 //! The page of a read, by the tables of a keep.
 ghost use Rattle.std.specs.Prelude.{◌≡◌, ◌<◌, ◌^◌, IsTrue};
 ghost use Rattle.pages_laws.specs.ByTables.{is_own, may_read, page_by, shown_by};
+ghost use Rattle.house_rows.specs.Taken.{IsUndamaged};
 ghost use Rattle.pages.specs.Promises.{MakesPage, ReadsPage};
+ghost use Rattle.pages.specs.Taken.{ReadRowsFit};
 
 use crate::bidding::{bids, reserves, statement};
 use crate::items::{item, items_in, watches};
@@ -24,7 +26,7 @@ pub fn read<K: Keep>(
     read_tables(alloc, keep, caller, query)
 }
 
-// The same by the tables.
+// The same by the tables. A read that is refused takes no rows.
 #[tactic(auto, unfolding(pages_laws::specs::ByTables::page_by))]
 fn read_tables<K: Keep>(
     alloc: Global,
@@ -32,7 +34,9 @@ fn read_tables<K: Keep>(
     caller: u64,
     query: &Query,
 ) -> Result<Page, KeepFault>
-    ensures { MakesPage K.Keep keep.old keep.new result page_by caller query.now }
+    ensures made { MakesPage K.Keep keep.old keep.new result page_by caller query.now }
+    ensures damaged { K.is_honest keep.new → ReadRowsFit (K.content keep.old) caller query.now
+        → IsUndamaged result }
 {
     let members = keep.counts()?.members;
     if !may_read(members, caller, is_own(query)) {

@@ -21,7 +21,7 @@ use Rattle.house_rows.specs.Making.{ChangeRowsFit}
 use Rattle.house_rows.specs.Runs.{next, reply}
 use Rattle.house_rows.specs.Tables.{Tables, tables_of}
 use Rattle.house_rows.specs.Verdict.{IsHistory, verdict}
-use Rattle.pages.specs.Taken.{PageRowsFit}
+use Rattle.pages.specs.Taken.{ReadRowsFit}
 use Rattle.pages_laws.specs.ByTables.{page_by}
 use Rattle.settle.specs.declared.zone.Zone.{Zone}
 use Rattle.site_request.specs.declared.fault.RequestFault.{RequestFault}
@@ -63,11 +63,11 @@ IsTaken t (Read caller query) = ⊥
 IsTaken t (Broken caller fault) = ⊥
 
 -- the rows that a message takes fit: those that deciding on a command takes and those that making
--- its own change does, and those that the page of a read takes
+-- its own change does, and those that the page of a read takes, where the caller may read
 abbrev pub MessageRowsFit : Tables → Message RequestFault → Type 0
 MessageRowsFit t (Write moment caller command) = CommandRowsFit t caller command
     × ((change : Change) → IsOf moment caller command change → ChangeRowsFit t change)
-MessageRowsFit t (Read caller query) = PageRowsFit t caller query
+MessageRowsFit t (Read caller query) = ReadRowsFit t caller query
 MessageRowsFit t (Broken caller fault) = Unit {0}
 
 -- of a read, what is said of its caller and its query
