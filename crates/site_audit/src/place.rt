@@ -1,12 +1,12 @@
 //! One place of two lists of messages.
-ghost use Rattle.std.specs.Prelude.{if◌then◌else◌, ◌≡◌, ◌∷◌, ◌++◌, [], IfErr, OnOk, map};
+ghost use Rattle.std.specs.Prelude.{if◌then◌else◌, ◌≡◌, ◌∷◌, ◌++◌, [], false, IfErr, Ok, OnOk, map};
 ghost use Rattle.std.specs.Cow.{cow_slice_items};
 ghost use Rattle.house_rows.specs.declared.settings.Settings.{Settings as TheSettings};
 ghost use Rattle.house_rows.specs.History.{History};
 ghost use Rattle.house_rows.specs.Tables.{tables_of};
 ghost use Rattle.house_rows.specs.Verdict.{IsHistory};
 ghost use Rattle.site.specs.Replies.{zone_of};
-ghost use Rattle.site_audit.specs.Places.{Heard, IsHeard, IsPlaceReported, IsUsed, keep_of};
+ghost use Rattle.site_audit.specs.Places.{ArePaired, Heard, IsHeard, IsPlaceReported, IsUsed, keep_of};
 
 use crate::fault::AuditFault;
 use crate::pair::sites_agree;
@@ -49,6 +49,12 @@ pub(crate) fn take_place<K: Keep + Drop>(
         → IsPlaceReported K.content K.is_failed settings (zone_of left.old) caller h k x y
         (map cow_slice_items replies.old.items) (map cow_slice_items replies.new.items)
         (keep_of left.new) (keep_of right.new) result }
+
+    // Whatever the houses are.
+    ensures unpaired { (x y : Heard) → IsHeard text.now x → IsHeard other.now y
+        → ¬ (ArePaired caller x y)
+        → (result ≡ Ok false) × (left.new ≡ left.old) × (right.new ≡ right.old)
+        × (replies.new ≡ replies.old) }
     ensures left { IsUsed K.is_failed K.is_honest left.old left.new }
     ensures right { IsUsed K.is_failed K.is_honest right.old right.new }
 {

@@ -1,4 +1,4 @@
-use Rattle.std.proofs.Common.{ℕ, Global, map}
+use Rattle.std.proofs.Common.{ℕ, Global, map, refl}
 use Rattle.std.specs.Cow.{cow_slice_items}
 use Rattle.site.specs.Replies.{next_of, zone_of}
 use Rattle.site_audit.specs.Places.{keep_of}
@@ -53,3 +53,22 @@ returns-clause-report g c = λ honest honest' settings h k is is' e d x y a b.
     (c.sites_agree.ensures.report honest honest' settings (next_of settings h x.asked)
     (next_of settings k y.asked) (next_is settings h x.asked is) (next_is settings k y.asked is')
     left.1 right.1)
+
+pub returns-then-not-may_pair-clause-unpaired : goal.returns-then-not-may_pair-clause-unpaired
+returns-then-not-may_pair-clause-unpaired g c = λ x y a b no. (refl, refl, refl, refl)
+
+pub returns-in_err-left_reply-clause-unpaired : goal.returns-in_err-left_reply-clause-unpaired
+returns-in_err-left_reply-clause-unpaired g c = λ x y a b no.
+    absurd (no ((c.may_pair.ensures x y a b).0 c.if-not-may_pair.false))
+
+pub returns-in_err-reply-clause-unpaired : goal.returns-in_err-reply-clause-unpaired
+returns-in_err-reply-clause-unpaired g c = λ x y a b no.
+    absurd (no ((c.may_pair.ensures x y a b).0 c.if-not-may_pair.false))
+
+pub returns-in_err-keep_reply-clause-unpaired : goal.returns-in_err-keep_reply-clause-unpaired
+returns-in_err-keep_reply-clause-unpaired g c = λ x y a b no.
+    absurd (no ((c.may_pair.ensures x y a b).0 c.if-not-may_pair.false))
+
+pub returns-clause-unpaired : goal.returns-clause-unpaired
+returns-clause-unpaired g c = λ x y a b no.
+    absurd (no ((c.may_pair.ensures x y a b).0 c.if-not-may_pair.false))
