@@ -1,6 +1,7 @@
 -- Why a keep gave no record.
-use Rattle.std.proofs.Common.{◌≡◌, ◌↔◌, true, Result, Ok, Err, inr, refl, subst, sym}
+use Rattle.std.proofs.Common.{◌≡◌, ◌↔◌, ℕ, List, true, Option, Result, Ok, Err, inr, refl, subst, sym}
 use Rattle.std.specs.Prelude.{IfErr, IsErr, IsErrAnd, IsErrOf}
+use Rattle.std.specs.Io.KnownBytes.{Keeps}
 use Rattle.house_rows.specs.Answers.{Reads}
 use Rattle.house_rows.specs.Taken.{IsUndamaged, PublicRowsFit}
 use Rattle.house_rows.specs.declared.fault.KeepFault.{KeepFault}
@@ -34,13 +35,16 @@ no_record k old new r kept.Damaged gave store undamaged read = record {
   read = read;
 }
 
--- and is handed on
-pub not_recorded : {K A T : Type 0} (k : keep.Ghosts K) (old new : K) (r : Result A KeepFault)
-    (f : KeepFault) (result : Result T TaskFault)
+-- and is handed on, where nothing was written
+pub not_recorded : {K A T : Type 0} (k : keep.Ghosts K) (before after : Option (List ℕ)) (old new : K)
+    (r : Result A KeepFault) (f : KeepFault) (result : Result T TaskFault)
     → IsErr result × IsErrAnd result (λ report. report ≡ fault_of_keep f) → r ≡ Err f
     → (IsErrOf r kept.Store ↔ (k.is_failed new ≡ true))
     → (k.is_honest new → PublicRowsFit (k.content old) → IsUndamaged r) → Reads k old new
-    → IfErr result (IsNotRecorded k true old new)
-not_recorded k old new r f (Ok x) gives gave store undamaged read = absurd gives.1
-not_recorded k old new r f (Err report) gives gave store undamaged read =
-    inr (subst (HasNoRecord k old new) (sym gives.1) (no_record k old new r f gave store undamaged read))
+    → Keeps before after → IfErr result (IsNotRecorded k true before after old new)
+not_recorded k before after old new r f (Ok x) gives gave store undamaged read keeps =
+    absurd gives.1
+not_recorded k before after old new r f (Err report) gives gave store undamaged read keeps = inr (
+  subst (HasNoRecord k old new) (sym gives.1) (no_record k old new r f gave store undamaged read),
+  keeps,
+)

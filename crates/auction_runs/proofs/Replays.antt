@@ -1,19 +1,22 @@
 -- What was written of a replay that ended before its end.
-use Rattle.std.proofs.Common.{◌≡◌, ℕ, ◌+◌, true, List, ◌++◌, length, take, Option, Some, None, Result, Ok, Err, arith, inl, inr, length-append, subst, sym}
+use Rattle.std.proofs.Common.{◌≡◌, ◌⊎◌, ℕ, ◌+◌, true, List, ◌++◌, length, take, Option, Some, None, Result, Ok, Err, arith, inl, inr, length-append, refl, subst, sym}
 use Rattle.std.specs.Prelude.{IfSome, OnErr}
 use Rattle.std.proofs.Math.Seq.{take-append-add, take-length}
 use Rattle.std.proofs.lemmas.List.{take-append-le}
-use Rattle.std.proofs.KnownBytes.{Appends-kept, Appends-trans}
+use Rattle.std.proofs.KnownBytes.{Appends-kept, Appends-trans, Keeps-refl}
 use Rattle.std.specs.Io.KnownBytes.{Appends, Keeps}
-use Rattle.auction_runs.specs.Replayed.{IsRecordedPart, IsReplayedPart, IsUnrecorded, all_messages}
+use Rattle.auction_runs.specs.Faults.{fault_of_serving}
+use Rattle.auction_runs.specs.Replayed.{HasRecordFault, HasServeFault, IsRecordedPart, IsReplayedPart, IsReplyFault, IsServeFault, IsUnrecorded, all_messages}
 use Rattle.auction_runs.specs.Setup.{IsSetUp}
+use Rattle.auction_runs.specs.declared.fault.TaskFault.{TaskFault}
 use Rattle.auction_words.specs.declared.command_line.Replay.{Replay}
 use Rattle.device.specs.Given.{AppendsBeginning}
 use Rattle.house_rows.specs.declared.keep.Keep as keep
 use Rattle.settle.specs.Zoned.{IsZoneOf}
 use Rattle.settle.specs.declared.zone.Zone.{Zone}
 use Rattle.site.specs.Replies.{IsStep}
-use Rattle.site_serve.specs.Serving.{HasRead, HasServed, HasWritten}
+use Rattle.site.specs.declared.engine.Site.{Site}
+use Rattle.site_serve.specs.Serving.{HasRead, HasServed, HasWritten, keep_of}
 use Rattle.site_serve.specs.declared.server.ServeFault.{ServeFault}
 use Rattle.site_serve.specs.declared.server.ServeFault.TheVariants.{Memory, Read, Write}
 use Rattle.site_serve.specs.declared.server.Served.{Served}
@@ -118,3 +121,47 @@ module _ {K : Type 0} (k : keep.Ghosts K) (asked : Replay) (zone first : Zone)
           unrecorded),
     ));
   }))
+
+-- where both are as they were, nothing was written and the keep stays
+pub unserved : {W K P : Type 0} (taken : W → Option (List ℕ)) (old new : W) (given left : Site K)
+    → P × (new ≡ old) × (left ≡ given)
+    → Keeps (taken old) (taken new) × (keep_of left ≡ keep_of given)
+unserved taken old new given left (source, same, stays) = (
+  subst (λ w. Keeps (taken old) (taken w)) (sym same) (Keeps-refl (taken old)),
+  rw stays refl,
+)
+
+-- what stands for a fault of serving goes with what was written by then
+pub serve_fault : {K P Q : Type 0} (k : keep.Ghosts K) (zone : Zone)
+    (left now before after : Option (List ℕ)) (begun last : K) (r : Result Served ServeFault)
+    (fault : ServeFault) → r ≡ Err fault
+    → (r ≡ Err Read → P × HasRead (IsStep k.content k.is_failed k.is_honest k.may_leave zone)
+    left now all_messages before after begun last)
+    → (r ≡ Err Write → Q × IfSome left (λ stream. HasWritten
+    (IsStep k.content k.is_failed k.is_honest k.may_leave zone) stream all_messages before after
+    begun last))
+    → (r ≡ Err Memory → Keeps before after × (last ≡ begun))
+    → IsServeFault k zone left now before after begun last (fault_of_serving fault)
+serve_fault k zone left now before after begun last r Read was read write memory =
+    inl (refl, (read was).1)
+serve_fault k zone left now before after begun last r Write was read write memory =
+    inr (inl (refl, (write was).1))
+serve_fault k zone left now before after begun last r Memory was read write memory =
+    inr (inr (refl, (memory was).0, (memory was).1))
+
+-- a fault after a keep was set up by one zone, which is another's
+pub by_fault : {K : Type 0} (k : keep.Ghosts K) (asked : Replay) (zone first : Zone)
+    (left now before after : Option (List ℕ)) (given begun last : K) (fault : TaskFault)
+    → zone ≡ first
+    → IsSetUp (IsStep k.content k.is_failed k.is_honest k.may_leave first) asked.preset given begun
+    → IsServeFault k zone left now before after begun last fault
+    ⊎ HasRecordFault k asked zone left before after begun last fault
+    → IsReplyFault k asked first left now before after given last fault
+by_fault k asked zone first left now before after given begun last fault same set_up why =
+    let here : HasServeFault k asked zone left now before after given last fault = record {
+      begun = begun;
+      set_up = subst (λ z. IsSetUp (IsStep k.content k.is_failed k.is_honest k.may_leave z)
+          asked.preset given begun) (sym same) set_up;
+      cause = why;
+    } in
+    inr (subst (λ z. HasServeFault k asked z left now before after given last fault) same here)

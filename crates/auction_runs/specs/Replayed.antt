@@ -13,10 +13,9 @@ use Rattle.settle.specs.Zoned.{IsZoneOf}
 use Rattle.settle.specs.declared.zone.Zone.{Zone}
 use Rattle.site.specs.Replies.{IsStep}
 use Rattle.site_serve.specs.Serving.{HasRead, HasServed, HasWritten}
-use Rattle.site_serve.specs.declared.server.ServeFault.{ServeFault}
 use Rattle.site_serve.specs.declared.server.Served.{Served}
 use Rattle.auction_runs.specs.Begun.{IsUnbegun}
-use Rattle.auction_runs.specs.Faults.{IsOfKeep, fault_of_serving}
+use Rattle.auction_runs.specs.Faults.{IsOfKeep}
 use Rattle.auction_runs.specs.Setup.{IsNotSetUp, IsSetUp}
 use Rattle.auction_runs.specs.declared.fault.TaskFault.{TaskFault}
 use Rattle.auction_runs.specs.declared.fault.TaskFault.TheVariants as report
@@ -117,7 +116,7 @@ abbrev pub IsReplayedPart : {K : Type 0} → keep.Ghosts K → Replay → Option
 IsReplayedPart k asked left now before after given =
     Keeps before after ⊎ HasReplayedPart k asked left now before after given
 
--- ---- which fault a replay has
+-- ---- which fault a replay has, and what was written by then
 
 -- why a keep that was asked for its record gave none: it reported the fault, Store exactly where it
 -- has failed, and never Damaged where the rows fit that everybody may see
@@ -128,29 +127,77 @@ pub record HasNoRecord {K : Type 0} (k : keep.Ghosts K) (old new : K) (fault : T
     pub damaged : k.is_honest new → PublicRowsFit (k.content old) → fault ≢ report.Damaged
     pub read : IsRead k.content k.is_failed k.is_honest k.may_leave old new
 
--- why the record that was asked for wasn't written: the output failed, or there is none
-abbrev pub IsNotRecorded : {K : Type 0} → keep.Ghosts K → Bool → K → K → TaskFault → Type 0
-IsNotRecorded k true old new fault = (fault ≡ report.Write) ⊎ HasNoRecord k old new fault
-IsNotRecorded k false old new fault = ⊥
+-- a keep gave its record, and a beginning of it and its newline was written
+pub record HasBegunRecord {K : Type 0} (k : keep.Ghosts K) (before after : Option (List ℕ))
+    (old new : K) : Type 0 where
+  pub text : List ℕ
+  pub shown : k.is_honest new → (settings : Settings) (h : History)
+      → k.content old ≡ tables_of settings h → text ≡ record_text settings h
+  pub read : IsRead k.content k.is_failed k.is_honest k.may_leave old new
+  pub part : AppendsBeginning before after (text ++ 10 ∷ [])
 
--- why a stream wasn't answered over a keep to its end: the keep was not set up, serving had a fault,
--- or the record wasn't written
-abbrev pub IsReplyFault : {K : Type 0} → keep.Ghosts K → Replay → Zone → K → K → TaskFault → Type 0
-IsReplyFault {K} k asked zone old new fault =
-    IsNotSetUp (IsStep k.content k.is_failed k.is_honest k.may_leave zone) asked.preset old fault new
-    ⊎ ((serving : ServeFault) × (fault ≡ fault_of_serving serving))
-    ⊎ ((mid : K) × IsNotRecorded k asked.record mid new fault)
+-- why the record that was asked for wasn't written: the output failed in it, or there is none, and
+-- nothing was written of it
+abbrev pub IsNotRecorded : {K : Type 0} → keep.Ghosts K → Bool → Option (List ℕ) → Option (List ℕ)
+    → K → K → TaskFault → Type 0
+IsNotRecorded k true before after old new fault =
+    ((fault ≡ report.Write) × HasBegunRecord k before after old new)
+    ⊎ (HasNoRecord k old new fault × Keeps before after)
+IsNotRecorded k false before after old new fault = ⊥
+
+-- serving a stream over a keep had a fault: the source failed in a wait for more, the sink did in a
+-- reply, or memory was refused before anything was done
+abbrev pub IsServeFault : {K : Type 0} → keep.Ghosts K → Zone → Option (List ℕ) → Option (List ℕ)
+    → Option (List ℕ) → Option (List ℕ) → K → K → TaskFault → Type 0
+IsServeFault k zone left now before after begun last fault =
+    ((fault ≡ report.Read) × HasRead (IsStep k.content k.is_failed k.is_honest k.may_leave zone)
+    left now all_messages before after begun last)
+    ⊎ ((fault ≡ report.Write) × IfSome left (λ stream.
+    HasWritten (IsStep k.content k.is_failed k.is_honest k.may_leave zone)
+    stream all_messages before after begun last))
+    ⊎ ((fault ≡ report.Memory) × Keeps before after × (last ≡ begun))
+
+-- the whole stream was served over a keep, and the record wasn't written whole
+pub record HasRecordFault {K : Type 0} (k : keep.Ghosts K) (asked : Replay) (zone : Zone)
+    (left before after : Option (List ℕ)) (begun last : K) (fault : TaskFault) : Type 0 where
+  pub ended : K
+  pub between : Option (List ℕ)
+  pub served : Served
+  pub answered : IfSome left (λ stream.
+      HasServed (IsStep k.content k.is_failed k.is_honest k.may_leave zone)
+      stream all_messages before between begun ended served)
+  pub cause : IsNotRecorded k asked.record between after ended last fault
+
+-- a keep was set up, and then serving had a fault, or the record wasn't written whole
+pub record HasServeFault {K : Type 0} (k : keep.Ghosts K) (asked : Replay) (zone : Zone)
+    (left now before after : Option (List ℕ)) (old new : K) (fault : TaskFault) : Type 0 where
+  pub begun : K
+  pub set_up : IsSetUp (IsStep k.content k.is_failed k.is_honest k.may_leave zone) asked.preset old
+      begun
+  pub cause : IsServeFault k zone left now before after begun new fault
+      ⊎ HasRecordFault k asked zone left before after begun new fault
+
+-- why a stream wasn't answered over a keep to its end, and what was written by then: nothing where
+-- the keep was not set up
+abbrev pub IsReplyFault : {K : Type 0} → keep.Ghosts K → Replay → Zone → Option (List ℕ)
+    → Option (List ℕ) → Option (List ℕ) → Option (List ℕ) → K → K → TaskFault → Type 0
+IsReplyFault k asked zone left now before after old new fault =
+    (IsNotSetUp (IsStep k.content k.is_failed k.is_honest k.may_leave zone) asked.preset old fault
+    new × Keeps before after)
+    ⊎ HasServeFault k asked zone left now before after old new fault
 
 -- so it was over a keep that was given
-pub record HasReplyFault {K : Type 0} (k : keep.Ghosts K) (asked : Replay) (given : K)
-    (fault : TaskFault) : Type 0 where
+pub record HasReplyFault {K : Type 0} (k : keep.Ghosts K) (asked : Replay)
+    (left now before after : Option (List ℕ)) (given : K) (fault : TaskFault) : Type 0 where
   pub zone : Zone
   pub kept_zone : k.is_honest given → IsZoneOf (k.content given).settings.zone zone
   pub last : K
-  pub cause : IsReplyFault k asked zone given last fault
+  pub cause : IsReplyFault k asked zone left now before after given last fault
 
--- or no site was begun over it
-abbrev pub IsReplayFault : {K : Type 0} → keep.Ghosts K → Replay → K → TaskFault → Type 0
-IsReplayFault k asked given fault =
-    IsUnbegun (k.is_honest given) (k.is_failed given) (k.content given) fault
-    ⊎ HasReplyFault k asked given fault
+-- or no site was begun over it, and nothing was written
+abbrev pub IsReplayFault : {K : Type 0} → keep.Ghosts K → Replay → Option (List ℕ)
+    → Option (List ℕ) → Option (List ℕ) → Option (List ℕ) → K → TaskFault → Type 0
+IsReplayFault k asked left now before after given fault =
+    (IsUnbegun (k.is_honest given) (k.is_failed given) (k.content given) fault
+    × Keeps before after)
+    ⊎ HasReplyFault k asked left now before after given fault

@@ -58,7 +58,8 @@ fn append_record<W: Sink, K: Keep + Drop>(sink: &mut W, site: &mut Site<K>) -> R
     ensures handed_on { OnOk result (W.handed_on sink.new ≡ W.taken sink.new) }
     ensures fault { IfErr result (IsOfReplay false (W.has_failed sink.new)) }
     ensures cause { IfErr result
-        (IsNotRecorded K.Keep true (keep_of site.old) (keep_of site.new)) }
+        (IsNotRecorded K.Keep true (W.taken sink.old) (W.taken sink.new)
+        (keep_of site.old) (keep_of site.new)) }
 {
     let record = site.record()?;
     match give_record(sink, record.as_slice()) {
@@ -81,7 +82,8 @@ fn finish<W: Sink, K: Keep + Drop>(
     ensures handed_on { OnOk result (IsFlushed W.handed_on W.taken sink.old sink.new) }
     ensures fault { IfErr result (IsOfReplay false (W.has_failed sink.new)) }
     ensures cause { IfErr result
-        (IsNotRecorded K.Keep asked.record (keep_of site.old) (keep_of site.new)) }
+        (IsNotRecorded K.Keep asked.record (W.taken sink.old) (W.taken sink.new)
+        (keep_of site.old) (keep_of site.new)) }
 {
     if asked.record {
         append_record(sink, site)
@@ -113,6 +115,7 @@ fn reply_over<R: Source, W: Sink, K: Keep + Drop>(
     ensures waits { result ≡ Err TaskFault.Read
         → IsFlushed W.handed_on W.taken sink.old sink.new }
     ensures cause { IfErr result (IsReplyFault K.Keep asked (zone_of site.old)
+        (R.left source.old) (R.left source.new) (W.taken sink.old) (W.taken sink.new)
         (keep_of site.old) (keep_of site.new)) }
 {
     prepare(site, asked)?;
@@ -138,7 +141,8 @@ fn reply_all<R: Source, W: Sink, K: Keep + Drop>(
         (IsOfReplay (R.has_failed source.new) (W.has_failed sink.new)) }
     ensures waits { result ≡ Err TaskFault.Read
         → IsFlushed W.handed_on W.taken sink.old sink.new }
-    ensures cause { IfErr result (IsReplayFault K.Keep asked keep) }
+    ensures cause { IfErr result (IsReplayFault K.Keep asked (R.left source.old)
+        (R.left source.new) (W.taken sink.old) (W.taken sink.new) keep) }
 {
     let mut site = site_over(alloc, keep)?;
     reply_over(alloc, source, sink, &mut site, asked)
@@ -146,8 +150,10 @@ fn reply_all<R: Source, W: Sink, K: Keep + Drop>(
 
 /// Answers all messages of a source over a new house, and gives the exit status. A fault is written
 /// in its line on `errors`. However the stream ends, the record that was asked for follows the last
-/// reply; where a device fails there is none. What was written before a fault is a beginning of it,
-/// and where the source failed the sink has handed it on.
+/// reply; where a device fails there is none, or a beginning of it. What was written before a fault
+/// goes with it: whole replies where the source failed, which the sink has handed on; a beginning
+/// of a reply or of the record, after those before it, where the sink did; and nothing of the record
+/// where the keep gave none.
 pub fn replay_run<R: Source, W: Sink, K: Keep + Drop, E: Sink>(
     alloc: Global,
     source: &mut R,
@@ -165,7 +171,8 @@ pub fn replay_run<R: Source, W: Sink, K: Keep + Drop, E: Sink>(
     ensures reported { IsReported E.Sink
         (λ fault. IsOfReplayed (R.has_failed source.new) (W.has_failed sink.new)
         (IsFlushed W.handed_on W.taken sink.old sink.new) fault
-        × IsReplayFault K.Keep asked keep fault)
+        × IsReplayFault K.Keep asked (R.left source.old) (R.left source.new)
+        (W.taken sink.old) (W.taken sink.new) keep fault)
         errors.old errors.new result }
     ensures within { result ≤ 1 }
 {
