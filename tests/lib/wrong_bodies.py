@@ -24,6 +24,7 @@ from lib.places import ROOT
 
 CRATES, KEPT = ROOT / "crates", ROOT / "out" / "wrong-bodies"
 PARTS = ("src", "specs", "proofs")
+COMMENT = {".rt": "//", ".antt": "--"}
 
 # What a wrong body comes to. The first two are refusals for a reason of the contract's, or of safety.
 CLAUSE, PANIC = "at a clause", "at a panic"
@@ -208,13 +209,19 @@ def logic():
     return kit().split()[-1]
 
 
+def without_comments(path):
+    """The lines of a file but for those that are comments, which no check reads."""
+    begin = COMMENT.get(path.suffix)
+    return [line for line in path.read_text().splitlines() if not begin or not line.lstrip().startswith(begin)]
+
+
 @functools.cache
 def sum_of(crate):
     """A sum of all that a check of a crate reads: its own text, what is stated below it, and the logic of the kit."""
     total = hashlib.sha256(logic().encode())
     for name, parts in [(crate, PARTS), *((below, PARTS[:2]) for below in dependencies(ROOT)[crate])]:
         for path in sorted(path for part in parts for path in (CRATES / name / part).rglob("*") if path.is_file()):
-            total.update(repr((str(path.relative_to(CRATES)), path.read_bytes())).encode())
+            total.update(repr((str(path.relative_to(CRATES)), without_comments(path))).encode())
     return total.hexdigest()
 
 
