@@ -1,6 +1,6 @@
 //! A list of messages, read from a stream.
-ghost use Rattle.std.specs.Prelude.{◌≡◌, ◌≤◌, ◌<◌, ◌++◌, ◌∷◌, [], ℕ, List, IfErr, IfOk, IfSome};
-ghost use Rattle.std.specs.Prelude.{MatchResult, OnOk, map, take, length};
+ghost use Rattle.std.specs.Prelude.{◌≡◌, ◌≤◌, ◌<◌, ◌↔◌, ◌⊎◌, ◌++◌, ◌∷◌, [], ℕ, List, IfErr, IfOk, IfSome};
+ghost use Rattle.std.specs.Prelude.{IsErrOf, MatchResult, OnOk, map, take, true, length};
 ghost use Rattle.std.specs.Io.KnownBytes.{Consumes, IsAtEnd};
 ghost use Rattle.site_audit.specs.Messages.{IsCutInto, IsNoList, IsStopped};
 ghost use Rattle.site_audit.specs.declared.messages.MessagesFault.TheVariants.{Memory, Read};
@@ -53,6 +53,7 @@ fn take_more<R: Source>(
     ensures end { IfOk result (λ n.
         n ≡ 0 → 0 < length into.new → IsAtEnd (R.left source.new)) }
     ensures fault { IfErr result (IsStopped (R.has_failed source.new)) }
+    ensures failed { IsErrOf result Read ↔ (R.has_failed source.new ≡ true) }
 {
     let count = source.take(into)?;
     text.extend_from_slice(&into[..count])?;
@@ -73,6 +74,7 @@ fn fill<R: Source>(
         × (text.new.items ≡ text.old.items ++ bytes)) }
     ensures end { IfOk result (λ n. n ≡ 0 → IsAtEnd (R.left source.new)) }
     ensures fault { IfErr result (IsStopped (R.has_failed source.new)) }
+    ensures failed { IsErrOf result Read ↔ (R.has_failed source.new ≡ true) }
 {
     let count = take_more(source, inbox.space(), text)?;
     inbox.took(count);
@@ -106,6 +108,9 @@ pub fn read_messages<R: Source>(
         MatchResult result (λ v. IsCutInto stream (map (λ m. m.items) v.items) [])
         (IsNoList stream (R.has_failed source.new))) }
     ensures end { OnOk result (IsAtEnd (R.left source.new)) }
+    // A source that fails is told as that, and neither as out of memory nor as a broken message.
+    ensures source { R.has_failed source.new ≡ true
+        → (R.has_failed source.old ≡ true) ⊎ IsErrOf result Read }
 {
     let mut inbox = Inbox::new(alloc)?;
     // What was read; its first `cut` bytes are the messages.

@@ -9,6 +9,7 @@ invariant-loop-request g l = record {
   so : Reading (g.R.Source.left l.fn.source) (g.R.Source.left l.source)
       (map (λ m. m.items) l.messages.items) l.text.items l.inbox.held l.cut;
   end : l.ended ≡ true → IsAtEnd (g.R.Source.left l.source);
+  source : g.R.Source.has_failed l.source ≡ true → g.R.Source.has_failed l.fn.source ≡ true;
 }
 
 -- more was read, or a message was cut off, or the stream has ended
