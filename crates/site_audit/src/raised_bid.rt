@@ -2,7 +2,7 @@
 ghost use Rattle.std.specs.Prelude.{◌≡◌, ◌↔◌, ◌≤◌, ℕ, List, Ok, map, true, length};
 ghost use Rattle.std.specs.List.{AllZip};
 ghost use Rattle.steps.specs.Table.{IsBandTable};
-ghost use Rattle.house_laws.specs.Covered.{raised, with_maximum as the_with_maximum};
+ghost use Rattle.house_laws.specs.Covered.{Sealed, raised, with_maximum as the_with_maximum};
 ghost use Rattle.house_rows.specs.declared.settings.Settings.{Settings as TheSettings};
 ghost use Rattle.house_rows.specs.History.{History};
 ghost use Rattle.house_rows.specs.Tables.{tables_of};
@@ -106,7 +106,8 @@ fn judge<K: Keep + Drop>(
 /// list in which the bid in a place, counted from 1, has another maximum; and says whether that bid
 /// is covered, with the replies to another, which are then the same in both.
 ///
-/// Which bids are covered is said at `surplus`. NotNew is never answered.
+/// Which bids are covered is said at `surplus`. NotNew is never answered. Where the place has no bid
+/// that may be raised to that maximum, no message is answered, and both houses stay.
 pub fn surplus_from<K: Keep + Drop>(
     alloc: Global,
     left: &mut Site<K>,
@@ -124,6 +125,11 @@ pub fn surplus_from<K: Keep + Drop>(
         → (heards : List Heard) → AllZip IsHeard (map (λ m. m.items) messages.now) heards
         → IsSurplusFoundFrom K.content K.is_failed settings (zone_of left.old) other h place
         maximum heards (keep_of left.new) (keep_of right.new) result }
+
+    // Whatever the houses are: where the place has no bid that may be raised so, they stay.
+    ensures unasked { (heards : List Heard) → AllZip IsHeard (map (λ m. m.items) messages.now) heards
+        → ((b : Sealed) → IsBidAt place b heards → ¬ (MayRaise other maximum b))
+        → (left.new ≡ left.old) × (right.new ≡ right.old) }
     ensures left { IsUsed K.is_failed K.is_honest left.old left.new }
     ensures right { IsUsed K.is_failed K.is_honest right.old right.new }
 {

@@ -1,4 +1,4 @@
-use Rattle.std.proofs.Common.{◌≡◌, ◌∙◌, subst, sym, false, true}
+use Rattle.std.proofs.Common.{◌≡◌, ◌∙◌, refl, subst, sym, false, true}
 use Rattle.house_laws.specs.Covered.{Sealed, raised}
 use Rattle.site.specs.Replies.{zone_of}
 use Rattle.site_bids.specs.Spelt.{bid_text}
@@ -56,3 +56,29 @@ returns-clause-found g c = λ honest honest' settings valid h is e d heards are.
     text.1.spelt) in
     c.judge.ensures.found honest honest' settings valid h is (zone_of c.args.left.now) c.args.other
     c.args.place heards text.0 there may text.1 found
+
+-- nothing is answered unless a bid is there that may be raised
+pub returns-in_err-bid-clause-unasked : goal.returns-in_err-bid-clause-unasked
+returns-in_err-bid-clause-unasked g c = λ heards are none. (refl, refl)
+
+pub returns-in_default-clause-unasked : goal.returns-in_default-clause-unasked
+returns-in_default-clause-unasked g c = λ heards are none. (refl, refl)
+
+pub returns-then-not-may_raise-clause-unasked : goal.returns-then-not-may_raise-clause-unasked
+returns-then-not-may_raise-clause-unasked g c = λ heards are none. (refl, refl)
+
+pub returns-in_err-verdict-clause-unasked : goal.returns-in_err-verdict-clause-unasked
+returns-in_err-verdict-clause-unasked g c = λ heards are none.
+    let there : IsBidAt c.args.place c.in-Some.bid heards =
+    rw c.in-Some.is at (c.in_ok-bid.ensures.found heards are) in
+    let may : MayRaise c.args.other c.args.maximum c.in-Some.bid =
+    c.may_raise.ensures.0 c.if-not-may_raise.false in
+    absurd (none c.in-Some.bid there may)
+
+pub returns-clause-unasked : goal.returns-clause-unasked
+returns-clause-unasked g c = λ heards are none.
+    let there : IsBidAt c.args.place c.in-Some.bid heards =
+    rw c.in-Some.is at (c.in_ok-bid.ensures.found heards are) in
+    let may : MayRaise c.args.other c.args.maximum c.in-Some.bid =
+    c.may_raise.ensures.0 c.if-not-may_raise.false in
+    absurd (none c.in-Some.bid there may)
