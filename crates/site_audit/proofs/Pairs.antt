@@ -1,6 +1,6 @@
 -- The result of a look at two keeps.
 use Rattle.std.proofs.Common.{◌≡◌, ◌∙◌, [], Bool, true, false, refl, sym, ap, subst, inl, inr, Result, Ok, Err}
-use Rattle.std.specs.Prelude.{◌↔◌, IsErr, IsErrAnd}
+use Rattle.std.specs.Prelude.{◌↔◌, IsErr, IsErrAnd, IsErrOf}
 use Rattle.house_rows.specs.declared.fault.KeepFault.{KeepFault}
 use Rattle.house_rows.specs.declared.fault.KeepFault.TheVariants as keep_fault
 use Rattle.house_rows.specs.declared.settings.Settings.{Settings}
@@ -60,6 +60,32 @@ pub seen_gave : {K : Type 0} (content : K → Tables) (is_failed : K → Bool) (
 seen_gave content is_failed P left right left_new right_new f (Ok report) gave seen = absurd gave.1
 seen_gave content is_failed P left right left_new right_new f (Err report) gave seen =
     subst (λ x. IsSeen content is_failed P left right left_new right_new (Err x)) (sym gave.1) seen
+
+-- no fault of a keep is that a house isn't new
+pub keep_gave : {A : Type 0} (f : KeepFault) (result : Result A AuditFault)
+    → IsErr result × IsErrAnd result (λ report. report ≡ fault_of_keep f)
+    → ¬ (IsErrOf result NotNew)
+keep_gave f (Ok a) gave = λ e. absurd gave.1
+keep_gave keep_fault.Memory (Err report) gave = λ e. let is : report ≡ Memory = gave.1 in absurd cc
+keep_gave keep_fault.Store (Err report) gave = λ e. let is : report ≡ Store = gave.1 in absurd cc
+keep_gave keep_fault.Damaged (Err report) gave = λ e. let is : report ≡ Store = gave.1 in absurd cc
+
+-- nor is it what out of memory was made into
+pub memory_gave : {A : Type 0} (f : AuditFault) (result : Result A AuditFault)
+    → IsErr result × IsErrAnd result (λ report. report ≡ f) → f ≡ Memory
+    → ¬ (IsErrOf result NotNew)
+memory_gave f (Ok a) gave memory = λ e. absurd gave.1
+memory_gave f (Err report) gave memory = λ e. let is : report ≡ f = gave.1 in absurd cc
+
+-- nor what another fault was made into
+pub never_gave : {A B : Type 0} (f : AuditFault) (result : Result B AuditFault)
+    → IsErr result × IsErrAnd result (λ report. report ≡ f)
+    → ¬ (IsErrOf {T = A} (Err f) NotNew) → ¬ (IsErrOf result NotNew)
+never_gave f (Ok b) gave never = λ e. absurd gave.1
+never_gave f (Err report) gave never = λ e.
+    let is : report ≡ f = gave.1 in
+    let same : f ≡ NotNew = cc in
+    absurd (never (ap Err same))
 
 -- keeps with the same tables before
 pub seen_from : {K : Type 0} (content : K → Tables) (is_failed : K → Bool) (P : Type 0)

@@ -1,5 +1,5 @@
 //! Two sites, side by side.
-ghost use Rattle.std.specs.Prelude.{◌≡◌, IfOk, true};
+ghost use Rattle.std.specs.Prelude.{◌≡◌, IfOk, IsErrOf, true};
 ghost use Rattle.steps.specs.Table.{IsBandTable};
 ghost use Rattle.house_rows.specs.declared.settings.Settings.{Settings as TheSettings};
 ghost use Rattle.house_rows.specs.History.{History};
@@ -26,6 +26,7 @@ pub(crate) fn sites_agree<K: Keep + Drop>(
         → K.content (keep_of right.old) ≡ tables_of settings k
         → IsSeen K.content K.is_failed (Agrees settings caller h k)
         (keep_of left.old) (keep_of right.old) (keep_of left.new) (keep_of right.new) result }
+    ensures never { ¬ (IsErrOf result AuditFault.NotNew) }
     ensures left { IsUsed K.is_failed K.is_honest left.old left.new }
     ensures right { IsUsed K.is_failed K.is_honest right.old right.new }
 {

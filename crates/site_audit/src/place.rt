@@ -1,5 +1,5 @@
 //! One place of two lists of messages.
-ghost use Rattle.std.specs.Prelude.{if◌then◌else◌, ◌≡◌, ◌∷◌, ◌++◌, [], false, IfErr, Ok, OnOk, map};
+ghost use Rattle.std.specs.Prelude.{if◌then◌else◌, ◌≡◌, ◌∷◌, ◌++◌, [], false, IfErr, IsErrOf, Ok, OnOk, map};
 ghost use Rattle.std.specs.Cow.{cow_slice_items};
 ghost use Rattle.house_rows.specs.declared.settings.Settings.{Settings as TheSettings};
 ghost use Rattle.house_rows.specs.History.{History};
@@ -55,6 +55,7 @@ pub(crate) fn take_place<K: Keep + Drop>(
         → ¬ (ArePaired caller x y)
         → (result ≡ Ok false) × (left.new ≡ left.old) × (right.new ≡ right.old)
         × (replies.new ≡ replies.old) }
+    ensures never { ¬ (IsErrOf result AuditFault.NotNew) }
     ensures left { IsUsed K.is_failed K.is_honest left.old left.new }
     ensures right { IsUsed K.is_failed K.is_honest right.old right.new }
 {

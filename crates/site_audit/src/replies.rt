@@ -1,5 +1,5 @@
 //! Replies that are neither 500 nor 503.
-ghost use Rattle.std.specs.Prelude.{◌≡◌, true, length};
+ghost use Rattle.std.specs.Prelude.{◌≡◌, true, length, IsErrOf};
 ghost use Rattle.std.specs.Cow.{cow_slice_items};
 ghost use Rattle.std.specs.Str.{bytes_eq};
 ghost use Rattle.house_rows.specs.declared.settings.Settings.{Settings as TheSettings};
@@ -30,7 +30,8 @@ fn has_status(reply: &[u8], digits: &[u8]) -> bool
 
 // A reply that is neither 500 nor 503.
 fn check_status(reply: Reply) -> Result<Reply, AuditFault>
-    ensures { IsJudged cow_slice_items reply.entry result }
+    ensures judged { IsJudged cow_slice_items reply.entry result }
+    ensures never { ¬ (IsErrOf result AuditFault.NotNew) }
 {
     if has_status(&reply, b"503") {
         return Err(AuditFault::Memory);
@@ -48,6 +49,7 @@ pub(crate) fn reply<K: Keep + Drop>(site: &mut Site<K>, text: &[u8]) -> Result<R
         → (asked : TheAsked) → IsAsked text.now asked
         → IsReplyReported K.content K.is_failed cow_slice_items settings (zone_of site.old) h asked
         (keep_of site.new) result }
+    ensures never { ¬ (IsErrOf result AuditFault.NotNew) }
     ensures used { IsUsed K.is_failed K.is_honest site.old site.new }
 {
     check_status(site.reply(text))

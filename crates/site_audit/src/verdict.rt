@@ -1,5 +1,5 @@
 //! Two lists of messages, compared as a caller sees them.
-ghost use Rattle.std.specs.Prelude.{◌≡◌, ◌+◌, ◌<◌, ◌^◌, List, map};
+ghost use Rattle.std.specs.Prelude.{◌≡◌, ◌+◌, ◌<◌, ◌^◌, List, IsErrOf, map};
 ghost use Rattle.std.specs.List.{AllZip};
 ghost use Rattle.house_laws.specs.Alike.{AreAlike};
 ghost use Rattle.house_rows.specs.declared.settings.Settings.{Settings as TheSettings};
@@ -68,6 +68,8 @@ pub fn audit_from<K: Keep + Drop>(
         → AllZip IsHeard (map (λ m. m.items) right_messages.now) rights
         → IsFoundFrom K.content K.is_failed settings (zone_of left.old) caller h k lefts rights
         (keep_of left.new) (keep_of right.new) result }
+    // Whatever the houses are.
+    ensures never { ¬ (IsErrOf result AuditFault.NotNew) }
     ensures left { IsUsed K.is_failed K.is_honest left.old left.new }
     ensures right { IsUsed K.is_failed K.is_honest right.old right.new }
 {

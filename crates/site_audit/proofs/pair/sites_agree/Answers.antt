@@ -1,7 +1,7 @@
 use Rattle.std.proofs.Common.{◌∙◌, ap, Ok}
 use Rattle.house_rows.specs.Runs.{Agrees}
 use Rattle.site_audit.specs.Places.{keep_of}
-use Rattle.site_audit.proofs.Pairs.{seen_err, seen_from, seen_gave, seen_ok, sound_if}
+use Rattle.site_audit.proofs.Pairs.{keep_gave, seen_err, seen_from, seen_gave, seen_ok, sound_if}
 use Rattle.site_audit.proofs.pair.sites_agree.Goals as goal
 
 pub returns-in_err-agree-clause-report : goal.returns-in_err-agree-clause-report
@@ -36,3 +36,7 @@ returns-clause-report g c = λ honest honest' settings h k is is' e d.
     c.agree.new.left c.agree.new.right c.in_ok-agree.field-0 c.in_ok-agree.ensures.tables.faults
     c.in_ok-agree.ensures.tables.left c.in_ok-agree.ensures.tables.right honest honest'
     (c.in_ok-agree.ensures.views honest honest' settings h k (same ∙ e) (same' ∙ d)))
+
+pub returns-in_err-agree-clause-never : goal.returns-in_err-agree-clause-never
+returns-in_err-agree-clause-never g c =
+    keep_gave c.in_err-agree.field-0.0 c.from_residual.result c.from_residual.ensures

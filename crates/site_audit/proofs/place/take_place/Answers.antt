@@ -3,6 +3,7 @@ use Rattle.std.specs.Cow.{cow_slice_items}
 use Rattle.site.specs.Replies.{next_of, zone_of}
 use Rattle.site_audit.specs.Places.{keep_of}
 use Rattle.site_audit.proofs.Places.{next_is, not_both, place_gave, place_left, place_right, place_seen, reply_kept}
+use Rattle.site_audit.proofs.Pairs.{memory_gave, never_gave}
 use Rattle.site_audit.proofs.place.take_place.Goals as goal
 
 pub returns-then-not-may_pair-clause-report : goal.returns-then-not-may_pair-clause-report
@@ -72,3 +73,19 @@ returns-in_err-keep_reply-clause-unpaired g c = λ x y a b no.
 pub returns-clause-unpaired : goal.returns-clause-unpaired
 returns-clause-unpaired g c = λ x y a b no.
     absurd (no ((c.may_pair.ensures x y a b).0 c.if-not-may_pair.false))
+
+-- neither a reply nor a look at two keeps tells that a house isn't new
+pub returns-in_err-left_reply-clause-never : goal.returns-in_err-left_reply-clause-never
+returns-in_err-left_reply-clause-never g c =
+    never_gave c.in_err-left_reply.field-0.0 c.from_residual.result c.from_residual.ensures
+    c.in_err-left_reply.ensures.never
+
+pub returns-in_err-reply-clause-never : goal.returns-in_err-reply-clause-never
+returns-in_err-reply-clause-never g c =
+    never_gave c.in_err-reply.field-0.0 c.from_residual-in_err-reply.result
+    c.from_residual-in_err-reply.ensures c.in_err-reply.ensures.never
+
+pub returns-in_err-keep_reply-clause-never : goal.returns-in_err-keep_reply-clause-never
+returns-in_err-keep_reply-clause-never g c =
+    memory_gave c.in_err-keep_reply.field-0.0 c.from_residual-in_err-keep_reply.result
+    c.from_residual-in_err-keep_reply.ensures c.in_err-keep_reply.ensures.err

@@ -8,7 +8,8 @@ returns-clause-report g c = λ honest settings h is e asked asks.
     let (found, also, step) = c.reply.ensures.step in
     step_reported k.content k.is_failed k.is_honest k.may_leave cow_slice_items settings
     c.args.site.now.writer.zone h c.args.text.now found asked c.reply.result
-    c.args.site.now.keep c.reply.new.self.keep c.check_status.result also asks step c.check_status.ensures
+    c.args.site.now.keep c.reply.new.self.keep c.check_status.result also asks step
+    c.check_status.ensures.judged
     honest is e
 
 pub returns-clause-used : goal.returns-clause-used

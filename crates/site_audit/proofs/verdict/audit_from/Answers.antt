@@ -5,6 +5,7 @@ use Rattle.site.specs.Replies.{zone_of}
 use Rattle.site_audit.specs.Places.{keep_of}
 use Rattle.site_audit.proofs.Lists.{ends_apart, next_read}
 use Rattle.site_audit.proofs.Runs.{compared_more, found_apart, found_end, found_equal, found_fault, found_gave, report_by, used_twice}
+use Rattle.site_audit.proofs.Pairs.{never_gave}
 use Rattle.site_audit.proofs.verdict.audit_from.Goals as goal
 
 pub returns-in_default-clause-found : goal.returns-in_default-clause-found
@@ -144,3 +145,8 @@ returns-clause-found g c = λ honest honest' settings h k is is' alike e d lefts
       c.if-left_messages-right_messages.false,
     )) honest honest' settings h k (is, is', e, d) alike lefts rights are
     others_are
+
+pub returns-in_err-take_place-clause-never : goal.returns-in_err-take_place-clause-never
+returns-in_err-take_place-clause-never g c =
+    never_gave c.in_err-take_place.field-0.0 c.from_residual.result c.from_residual.ensures
+    c.in_err-take_place.ensures.never
