@@ -87,6 +87,11 @@ never_gave f (Err report) gave never = λ e.
     let same : f ≡ NotNew = cc in
     absurd (never (ap Err same))
 
+-- one fault in results of two types
+pub never_other : {A B : Type 0} (f : AuditFault) → ¬ (IsErrOf {T = A} (Err f) NotNew)
+    → ¬ (IsErrOf {T = B} (Err f) NotNew)
+never_other f never = λ e. let same : f ≡ NotNew = cc in absurd (never (ap Err same))
+
 -- keeps with the same tables before
 pub seen_from : {K : Type 0} (content : K → Tables) (is_failed : K → Bool) (P : Type 0)
     (a b left right left_new right_new : K) (result : Result Bool AuditFault)

@@ -60,7 +60,8 @@ fn bid_in(message: &Message<RequestFault>) -> Option<SealedBid>
 
 // The bid that a text asks for, if it asks for one.
 fn read_bid(alloc: Global, text: &[u8]) -> Result<Option<SealedBid>, AuditFault>
-    ensures { (asked : TheAsked) → IsAsked text.now asked → IsBidRead asked.message result }
+    ensures read { (asked : TheAsked) → IsAsked text.now asked → IsBidRead asked.message result }
+    ensures err { IfErr result (λ fault. fault ≡ AuditFault.Memory) }
 {
     let routes = match Routes::new(alloc) {
         Ok(routes) => routes,
@@ -82,6 +83,7 @@ pub(crate) fn bid_at(
     ensures found { (heards : List Heard) → AllZip IsHeard (map (λ m. m.items) messages.now) heards
         → IsBidFound place heards result }
     ensures there { IfOk result (λ bid. IfSome bid (λ _. (1 ≤ place) × (place ≤ length messages.now))) }
+    ensures err { IfErr result (λ fault. fault ≡ AuditFault.Memory) }
 {
     if place == 0 {
         return Ok(None);

@@ -1,5 +1,5 @@
 //! Who leads, and whether the leader's maximum covers what leading takes.
-ghost use Rattle.std.specs.Prelude.{◌≡◌, ◌≤◌, ◌↔◌, IfOk, IfSome, Some, true};
+ghost use Rattle.std.specs.Prelude.{◌≡◌, ◌≤◌, ◌↔◌, IfOk, IfSome, IsErrOf, Some, true};
 ghost use Rattle.steps.specs.Table.{over};
 ghost use Rattle.proxy.specs.Surplus.{Covers};
 ghost use Rattle.house_laws.specs.Covered.{LeadsBy};
@@ -109,6 +109,7 @@ pub(crate) fn both_lead<K: Keep + Drop>(
         (LeadsBy settings h bid.item bid.member bid.maximum
         × LeadsBy settings k bid.item bid.member maximum)
         (keep_of left.old) (keep_of right.old) (keep_of left.new) (keep_of right.new) result }
+    ensures never { ¬ (IsErrOf result AuditFault.NotNew) }
     ensures left { IsUsed K.is_failed K.is_honest left.old left.new }
     ensures right { IsUsed K.is_failed K.is_honest right.old right.new }
 {

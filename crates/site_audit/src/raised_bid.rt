@@ -1,5 +1,5 @@
 //! Whether it shows to others how far a bid lies above what leading takes.
-ghost use Rattle.std.specs.Prelude.{◌≡◌, ◌↔◌, ◌≤◌, ℕ, List, Ok, map, true, length};
+ghost use Rattle.std.specs.Prelude.{◌≡◌, ◌↔◌, ◌≤◌, ℕ, List, IsErrOf, Ok, map, true, length};
 ghost use Rattle.std.specs.List.{AllZip};
 ghost use Rattle.steps.specs.Table.{IsBandTable};
 ghost use Rattle.house_laws.specs.Covered.{Sealed, raised, with_maximum as the_with_maximum};
@@ -65,6 +65,7 @@ fn compare_with<K: Keep + Drop>(
         → (text : Heard) → IsHeard (bid_text bid) text
         → IsFoundFrom K.content K.is_failed settings (zone_of left.old) other h h heards
         (raised place text heards) (keep_of left.new) (keep_of right.new) result }
+    ensures never { ¬ (IsErrOf result AuditFault.NotNew) }
     ensures left { IsUsed K.is_failed K.is_honest left.old left.new }
     ensures right { IsUsed K.is_failed K.is_honest right.old right.new }
 {
@@ -89,6 +90,7 @@ fn judge<K: Keep + Drop>(
         (raised place text heards) (keep_of left.old) (keep_of right.old) (Ok verdict)
         → IsSurplusFoundFrom K.content K.is_failed settings zone other h place maximum heards
         (keep_of left.new) (keep_of right.new) result }
+    ensures never { ¬ (IsErrOf result AuditFault.NotNew) }
     ensures left { IsUsed K.is_failed K.is_honest left.old left.new }
     ensures right { IsUsed K.is_failed K.is_honest right.old right.new }
 {
@@ -130,6 +132,7 @@ pub fn surplus_from<K: Keep + Drop>(
     ensures unasked { (heards : List Heard) → AllZip IsHeard (map (λ m. m.items) messages.now) heards
         → ((b : Sealed) → IsBidAt place b heards → ¬ (MayRaise other maximum b))
         → (left.new ≡ left.old) × (right.new ≡ right.old) }
+    ensures never { ¬ (IsErrOf result AuditFault.NotNew) }
     ensures left { IsUsed K.is_failed K.is_honest left.old left.new }
     ensures right { IsUsed K.is_failed K.is_honest right.old right.new }
 {

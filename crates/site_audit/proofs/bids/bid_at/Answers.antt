@@ -12,7 +12,7 @@ returns-in-Some-clause-found c = λ heards are.
     let read = c.deref.ensures.value ∙ ap (λ m. m.items) c.in-Some.ensures.lookup.1 in
     let asks : IsAsked c.deref.result.now p.here.asked = subst (λ t. IsAsked t p.here.asked) (sym read) p.belongs.asks in
     let placed : c.args.place ≡ length p.before + 1 = (let at' = p.placed in omega (arith, at', c.if-place-eq0.false)) in
-    found_at c.args.place p.before p.here p.later heards c.read_bid.result p.parts placed (c.read_bid.ensures p.here.asked asks)
+    found_at c.args.place p.before p.here p.later heards c.read_bid.result p.parts placed (c.read_bid.ensures.read p.here.asked asks)
 
 pub returns-in-None-clause-found : goal.returns-in-None-clause-found
 returns-in-None-clause-found c = λ heards are.

@@ -1,7 +1,7 @@
 use Rattle.std.proofs.Common.{◌∙◌, ap, refl}
 use Rattle.house_laws.specs.Covered.{LeadsBy}
 use Rattle.site_audit.specs.Places.{keep_of}
-use Rattle.site_audit.proofs.Pairs.{left_err, right_err, seen_from, seen_gave, sound_if}
+use Rattle.site_audit.proofs.Pairs.{keep_gave, left_err, right_err, seen_from, seen_gave, sound_if}
 use Rattle.site_audit.proofs.leadership.both_lead.Goals as goal
 
 pub returns-in_err-leads_by-clause-lead : goal.returns-in_err-leads_by-clause-lead
@@ -32,3 +32,12 @@ returns-in_err-leads_by-2-clause-lead g c = λ honest honest' settings h k is is
     (seen_gave n.content n.is_failed P left a c.leads_by.new.keep c.leads_by-2.new.keep f report c.from_residual-in_err-leads_by-2.ensures
     (right_err n.content n.is_failed P _ left a c.leads_by.new.keep c.leads_by-2.new.keep f c.in_err-leads_by-2.ensures.faults honest'
     (sound_if settings k (n.content a) is' (same ∙ d))))
+
+pub returns-in_err-leads_by-clause-never : goal.returns-in_err-leads_by-clause-never
+returns-in_err-leads_by-clause-never g c =
+    keep_gave c.in_err-leads_by.field-0.0 c.from_residual.result c.from_residual.ensures
+
+pub returns-in_err-leads_by-2-clause-never : goal.returns-in_err-leads_by-2-clause-never
+returns-in_err-leads_by-2-clause-never g c =
+    keep_gave c.in_err-leads_by-2.field-0.0 c.from_residual-in_err-leads_by-2.result
+    c.from_residual-in_err-leads_by-2.ensures

@@ -6,6 +6,7 @@ use Rattle.site.proofs.Raised.{zip_raised}
 use Rattle.site_bids.specs.Spelt.{bid_text}
 use Rattle.site_audit.specs.AuditsFrom.{IsFoundFrom}
 use Rattle.site_audit.specs.Places.{IsHeard, keep_of}
+use Rattle.site_audit.proofs.Pairs.{memory_gave}
 use Rattle.site_audit.proofs.RaisedRuns.{fault_gave}
 use Rattle.site_audit.proofs.raised_bid.compare_with.Goals as goal
 
@@ -30,3 +31,8 @@ returns-clause-found g c = λ honest honest' settings h is e d heards are text s
     (subst (λ l. AllZip IsHeard l rights) (sym list)
     (zip_raised IsHeard c.args.place (map (λ m. m.items) c.args.messages.now) heards
     (bid_text c.args.bid) text are spelt))
+
+pub returns-in_err-list-clause-never : goal.returns-in_err-list-clause-never
+returns-in_err-list-clause-never g c =
+    memory_gave c.in_err-list.field-0.0 c.from_residual.result c.from_residual.ensures
+    c.in_err-list.ensures.err

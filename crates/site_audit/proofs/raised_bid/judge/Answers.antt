@@ -3,6 +3,7 @@ use Rattle.std.specs.Cow.{cow_slice_items}
 use Rattle.house_laws.specs.Covered.{raised}
 use Rattle.site_audit.specs.AuditsFrom.{AreEqualFrom, ArePartFrom, heard_history}
 use Rattle.site_audit.specs.Places.{keep_of}
+use Rattle.site_audit.proofs.Pairs.{never_other}
 use Rattle.site_audit.proofs.RaisedRuns.{BothLead, apart_tells, equal_tells, is_history, not_led, seen_gives}
 use Rattle.site_audit.proofs.raised_bid.judge.Goals as goal
 
@@ -64,3 +65,6 @@ returns-in-Err-clause-found g c =
     (BothLead settings h place c.args.maximum c.args.bid heards text) settings zone h other place
     c.args.maximum heards left right (keep_of c.both_lead.new.left)
     (keep_of c.both_lead.new.right) c.in-Err.fault seen
+
+pub returns-in-Err-clause-never : goal.returns-in-Err-clause-never
+returns-in-Err-clause-never g c = never_other c.in-Err.fault c.in-Err.ensures.never

@@ -5,6 +5,7 @@ use Rattle.site_bids.specs.Spelt.{bid_text}
 use Rattle.site_audit.specs.Places.{IsHeard, keep_of}
 use Rattle.site_audit.specs.SealedBids.{IsBidAt, MayRaise}
 use Rattle.site_audit.specs.SurplusFrom.{IsSurplusFoundFrom}
+use Rattle.site_audit.proofs.Pairs.{memory_gave, never_gave}
 use Rattle.site_audit.proofs.RaisedRuns.{fault_gave, found_gives, no_bid, not_raised}
 use Rattle.site_audit.proofs.SealedBids.{raise_of}
 use Rattle.site_audit.proofs.raised_bid.surplus_from.Goals as goal
@@ -82,3 +83,14 @@ returns-clause-unasked g c = λ heards are none.
     let may : MayRaise c.args.other c.args.maximum c.in-Some.bid =
     c.may_raise.ensures.0 c.if-not-may_raise.false in
     absurd (none c.in-Some.bid there may)
+
+-- neither out of memory nor a fault of the comparison is that a house isn't new
+pub returns-in_err-bid-clause-never : goal.returns-in_err-bid-clause-never
+returns-in_err-bid-clause-never g c =
+    memory_gave c.in_err-bid.field-0.0 c.from_residual.result c.from_residual.ensures
+    c.in_err-bid.ensures.err
+
+pub returns-in_err-verdict-clause-never : goal.returns-in_err-verdict-clause-never
+returns-in_err-verdict-clause-never g c =
+    never_gave c.in_err-verdict.field-0.0 c.from_residual-in_err-verdict.result
+    c.from_residual-in_err-verdict.ensures c.in_err-verdict.ensures.never
