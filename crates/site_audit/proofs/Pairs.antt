@@ -92,6 +92,37 @@ pub never_other : {A B : Type 0} (f : AuditFault) → ¬ (IsErrOf {T = A} (Err f
     → ¬ (IsErrOf {T = B} (Err f) NotNew)
 never_other f never = λ e. let same : f ≡ NotNew = cc in absurd (never (ap Err same))
 
+-- what goes on was going before
+going_before : (before after : Bool) → (before ≡ true → after ≡ true) → after ≡ false
+    → before ≡ false
+going_before false after stays going = refl
+going_before true after stays going = absurd (let failed = stays refl in cc)
+
+-- a keep that was looked at twice
+pub read_twice : {K : Type 0} (content : K → Tables) (is_failed : K → Bool) (is_honest : K → Type 0)
+    (may_leave : K → Tables → Type 0) (old mid new : K)
+    → IsRead content is_failed is_honest may_leave old mid
+    → IsRead content is_failed is_honest may_leave mid new
+    → IsRead content is_failed is_honest may_leave old new
+read_twice content is_failed is_honest may_leave old mid new a b = record {
+  same = λ honest going. b.same honest going
+      ∙ a.same (b.honest honest) (going_before (is_failed mid) (is_failed new) b.stays going);
+  honest = λ honest. a.honest (b.honest honest);
+  stays = λ failed. b.stays (a.stays failed);
+  crash = λ honest t left. a.crash (b.honest honest) t (b.crash honest t left);
+}
+
+-- and one that is as it was
+pub read_same : {K : Type 0} (content : K → Tables) (is_failed : K → Bool) (is_honest : K → Type 0)
+    (may_leave : K → Tables → Type 0) (old new : K) → new ≡ old
+    → IsRead content is_failed is_honest may_leave old new
+read_same content is_failed is_honest may_leave old new same = rw same (record {
+  same = λ honest going. refl;
+  honest = λ honest. honest;
+  stays = λ failed. failed;
+  crash = λ honest t left. left;
+})
+
 -- keeps with the same tables before
 pub seen_from : {K : Type 0} (content : K → Tables) (is_failed : K → Bool) (P : Type 0)
     (a b left right left_new right_new : K) (result : Result Bool AuditFault)

@@ -1,6 +1,7 @@
 //! Two sites, side by side.
 ghost use Rattle.std.specs.Prelude.{◌≡◌, IfOk, IsErrOf, true};
 ghost use Rattle.steps.specs.Table.{IsBandTable};
+ghost use Rattle.house_rows.specs.Answers.{Reads};
 ghost use Rattle.house_rows.specs.declared.settings.Settings.{Settings as TheSettings};
 ghost use Rattle.house_rows.specs.History.{History};
 ghost use Rattle.house_rows.specs.Runs.{Agrees};
@@ -44,6 +45,8 @@ fn are_alike<K: Keep + Drop>(left: &mut Site<K>, right: &mut Site<K>) -> Result<
         (keep_of left.old) (keep_of right.old) (keep_of left.new) (keep_of right.new) result }
     ensures valid { K.is_honest (keep_of left.new)
         → IfOk result (λ _. IsBandTable (K.content (keep_of left.old)).settings.bands) }
+    ensures left_read { Reads K.Keep (keep_of left.old) (keep_of left.new) }
+    ensures right_read { Reads K.Keep (keep_of right.old) (keep_of right.new) }
     ensures left { IsUsed K.is_failed K.is_honest left.old left.new }
     ensures right { IsUsed K.is_failed K.is_honest right.old right.new }
 {
@@ -65,6 +68,8 @@ pub(crate) fn may_begin<K: Keep + Drop>(
         (keep_of left.old) (keep_of right.old) (keep_of left.new) (keep_of right.new) result }
     ensures valid { K.is_honest (keep_of left.new) → IfOk result (λ begins.
         begins ≡ true → IsBandTable (K.content (keep_of left.old)).settings.bands) }
+    ensures left_read { Reads K.Keep (keep_of left.old) (keep_of left.new) }
+    ensures right_read { Reads K.Keep (keep_of right.old) (keep_of right.new) }
     ensures left { IsUsed K.is_failed K.is_honest left.old left.new }
     ensures right { IsUsed K.is_failed K.is_honest right.old right.new }
 {

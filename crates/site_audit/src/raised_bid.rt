@@ -3,6 +3,7 @@ ghost use Rattle.std.specs.Prelude.{◌≡◌, ◌↔◌, ◌≤◌, ℕ, List, 
 ghost use Rattle.std.specs.List.{AllZip};
 ghost use Rattle.steps.specs.Table.{IsBandTable};
 ghost use Rattle.house_laws.specs.Covered.{Sealed, raised, with_maximum as the_with_maximum};
+ghost use Rattle.house_rows.specs.Answers.{Reads};
 ghost use Rattle.house_rows.specs.declared.settings.Settings.{Settings as TheSettings};
 ghost use Rattle.house_rows.specs.History.{History};
 ghost use Rattle.house_rows.specs.Tables.{tables_of};
@@ -173,6 +174,11 @@ pub fn surplus<K: Keep + Drop>(
         → IsSurplusResult K.content K.is_failed settings (zone_of left.old) other place maximum
         heards (keep_of left.old) (keep_of right.old) (keep_of left.new) (keep_of right.new)
         result }
+
+    // Whatever the houses are.
+    ensures unbegun { IsErrOf result AuditFault.NotNew
+        → Reads K.Keep (keep_of left.old) (keep_of left.new)
+        × Reads K.Keep (keep_of right.old) (keep_of right.new) }
     ensures left { IsUsed K.is_failed K.is_honest left.old left.new }
     ensures right { IsUsed K.is_failed K.is_honest right.old right.new }
 {

@@ -2,6 +2,7 @@
 ghost use Rattle.std.specs.Prelude.{◌≡◌, ◌+◌, ◌<◌, ◌^◌, List, IsErrOf, map};
 ghost use Rattle.std.specs.List.{AllZip};
 ghost use Rattle.house_laws.specs.Alike.{AreAlike};
+ghost use Rattle.house_rows.specs.Answers.{Reads};
 ghost use Rattle.house_rows.specs.declared.settings.Settings.{Settings as TheSettings};
 ghost use Rattle.house_rows.specs.History.{History};
 ghost use Rattle.house_rows.specs.Tables.{tables_of};
@@ -113,6 +114,11 @@ pub fn audit<K: Keep + Drop>(
         → AllZip IsHeard (map (λ m. m.items) right_messages.now) rights
         → IsVerdict K.content K.is_failed settings (zone_of left.old) caller lefts rights
         (keep_of left.old) (keep_of right.old) (keep_of left.new) (keep_of right.new) result }
+
+    // Whatever the houses are.
+    ensures unbegun { IsErrOf result AuditFault.NotNew
+        → Reads K.Keep (keep_of left.old) (keep_of left.new)
+        × Reads K.Keep (keep_of right.old) (keep_of right.new) }
     ensures left { IsUsed K.is_failed K.is_honest left.old left.new }
     ensures right { IsUsed K.is_failed K.is_honest right.old right.new }
 {

@@ -2,7 +2,7 @@ use Rattle.std.proofs.Common.{◌≡◌, ◌∙◌, ap, subst}
 use Rattle.steps.specs.Table.{IsBandTable}
 use Rattle.house_rows.specs.Tables.{Tables}
 use Rattle.site_audit.specs.Places.{keep_of}
-use Rattle.site_audit.proofs.Pairs.{alike_reported, seen_err, seen_from, seen_gave, sound_if}
+use Rattle.site_audit.proofs.Pairs.{alike_reported, read_same, seen_err, seen_from, seen_gave, sound_if}
 use Rattle.site_audit.proofs.pair.are_alike.Goals as goal
 
 pub returns-in_err-have_same_settings-clause-report :
@@ -39,3 +39,30 @@ pub returns-clause-valid : goal.returns-clause-valid
 returns-clause-valid g c = λ honest.
     subst (λ (t : Tables). IsBandTable t.settings.bands)
     (ap g.K.Keep.content c.keep_mut.ensures.keep) (c.in_ok-have_same_settings.ensures.valid honest)
+
+-- both keeps are as they were
+pub returns-in_err-have_same_settings-clause-left_read :
+    goal.returns-in_err-have_same_settings-clause-left_read
+returns-in_err-have_same_settings-clause-left_read g c =
+    let n = g.K.Keep in
+    read_same n.content n.is_failed n.is_honest n.may_leave (keep_of c.args.left.now)
+    c.keep_mut.result.now c.keep_mut.ensures.keep
+
+pub returns-in_err-have_same_settings-clause-right_read :
+    goal.returns-in_err-have_same_settings-clause-right_read
+returns-in_err-have_same_settings-clause-right_read g c =
+    let n = g.K.Keep in
+    read_same n.content n.is_failed n.is_honest n.may_leave (keep_of c.args.right.now)
+    c.keep_mut-2.result.now c.keep_mut-2.ensures.keep
+
+pub returns-clause-left_read : goal.returns-clause-left_read
+returns-clause-left_read g c =
+    let n = g.K.Keep in
+    read_same n.content n.is_failed n.is_honest n.may_leave (keep_of c.args.left.now)
+    c.keep_mut.result.now c.keep_mut.ensures.keep
+
+pub returns-clause-right_read : goal.returns-clause-right_read
+returns-clause-right_read g c =
+    let n = g.K.Keep in
+    read_same n.content n.is_failed n.is_honest n.may_leave (keep_of c.args.right.now)
+    c.keep_mut-2.result.now c.keep_mut-2.ensures.keep

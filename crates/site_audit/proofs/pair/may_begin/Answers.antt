@@ -5,7 +5,7 @@ use Rattle.house.proofs.Unchanged.{still_there}
 use Rattle.house_rows.specs.Tables.{Tables}
 use Rattle.site_audit.specs.Audits.{MayBegin}
 use Rattle.site_audit.specs.Places.{keep_of}
-use Rattle.site_audit.proofs.Pairs.{begun, left_err, right_err, seen_gave, sound_if}
+use Rattle.site_audit.proofs.Pairs.{begun, left_err, read_twice, right_err, seen_gave, sound_if}
 use Rattle.site_audit.proofs.pair.may_begin.Goals as goal
 
 pub returns-in_err-is_new-clause-report : goal.returns-in_err-is_new-clause-report
@@ -64,3 +64,18 @@ returns-clause-valid g c = λ honest.
     (λ begins. begins ≡ true → IsBandTable (n.content a).settings.bands)
     (λ begins valid yes. subst (λ (t : Tables). IsBandTable t.settings.bands) same valid)
     (c.are_alike.ensures.valid honest)
+
+-- both keeps were looked at twice
+pub returns-clause-left_read : goal.returns-clause-left_read
+returns-clause-left_read g c =
+    let n = g.K.Keep in
+    read_twice n.content n.is_failed n.is_honest n.may_leave (keep_of c.args.left.now)
+    (keep_of c.is_new.new.self) (keep_of c.are_alike.new.left) c.in_ok-is_new.ensures.read
+    c.are_alike.ensures.left_read
+
+pub returns-clause-right_read : goal.returns-clause-right_read
+returns-clause-right_read g c =
+    let n = g.K.Keep in
+    read_twice n.content n.is_failed n.is_honest n.may_leave (keep_of c.args.right.now)
+    (keep_of c.is_new-2.new.self) (keep_of c.are_alike.new.right) c.in_ok-is_new-2.ensures.read
+    c.are_alike.ensures.right_read

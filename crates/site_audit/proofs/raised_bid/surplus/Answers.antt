@@ -30,3 +30,15 @@ returns-clause-surplus g c =
     (c.surplus_from.ensures.found honest honest' settings valid [] tt
     (seen.1 ∙ left_new settings h t u e begins)
     (seen.2 ∙ right_new others k t u d begins ∙ ap (λ s. tables_of s []) (sym same)) heards are)
+
+-- where none begins, both houses were only looked at
+pub returns-in_err-may_begin-clause-unbegun : goal.returns-in_err-may_begin-clause-unbegun
+returns-in_err-may_begin-clause-unbegun g c = λ e.
+    (c.in_err-may_begin.ensures.left_read, c.in_err-may_begin.ensures.right_read)
+
+pub returns-then-not-branch-clause-unbegun : goal.returns-then-not-branch-clause-unbegun
+returns-then-not-branch-clause-unbegun g c = λ e.
+    (c.in_ok-may_begin.ensures.left_read, c.in_ok-may_begin.ensures.right_read)
+
+pub returns-clause-unbegun : goal.returns-clause-unbegun
+returns-clause-unbegun g c = λ e. absurd (c.surplus_from.ensures.never e)

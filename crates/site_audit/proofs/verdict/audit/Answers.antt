@@ -28,3 +28,15 @@ returns-clause-verdict g c =
     (seen.1 ∙ left_new settings h t u e may)
     (seen.2 ∙ right_new others k t u d may ∙ ap (λ s. tables_of s []) (sym same)) lefts rights are
     others_are))
+
+-- where none begins, both houses were only looked at
+pub returns-in_err-may_begin-clause-unbegun : goal.returns-in_err-may_begin-clause-unbegun
+returns-in_err-may_begin-clause-unbegun g c = λ e.
+    (c.in_err-may_begin.ensures.left_read, c.in_err-may_begin.ensures.right_read)
+
+pub returns-then-not-branch-clause-unbegun : goal.returns-then-not-branch-clause-unbegun
+returns-then-not-branch-clause-unbegun g c = λ e.
+    (c.in_ok-may_begin.ensures.left_read, c.in_ok-may_begin.ensures.right_read)
+
+pub returns-clause-unbegun : goal.returns-clause-unbegun
+returns-clause-unbegun g c = λ e. absurd (c.audit_from.ensures.never e)
