@@ -1,10 +1,11 @@
 -- What is known of a run by how it ended.
 use Rattle.std.proofs.Common.{◌≡◌, ◌⊎◌, ◌↔◌, ℕ, List, Bool, true, false, Option, Ok, Err, inl, inr, refl, sym, subst}
-use Rattle.std.specs.Prelude.{IfErr, IfOk, IsErr, IsOk, OnErr, OnOk, Result}
+use Rattle.std.specs.Prelude.{IfErr, IfOk, IsErr, IsErrOf, IsOk, OnErr, OnOk, Result}
 use Rattle.device.specs.declared.sink.Sink as sink
 use Rattle.site_serve.specs.Serving.{IsFlushed}
 use Rattle.house_rows.specs.declared.fault.KeepFault.{KeepFault}
-use Rattle.auction_runs.specs.Faults.{IsOfEnd, IsOfEnded}
+use Rattle.house_rows.specs.declared.fault.KeepFault.TheVariants as closing
+use Rattle.auction_runs.specs.Faults.{IsOfClosing, IsOfEnd, IsOfEnded, fault_of_keep}
 use Rattle.auction_runs.specs.Lines.{IsReported, IsTold, TellsFinding}
 use Rattle.auction_runs.specs.declared.fault.TaskFault.{TaskFault}
 
@@ -51,27 +52,38 @@ pub both_of : {T U E F : Type 0} {P Q : T → Type 0} (s : Result T E) (r : Resu
 both_of s (Ok u) done ok p q = both s ok p q
 both_of s (Err e) done ok p q = absurd cc
 
+-- a fault that an end reported, which reports no damage
+pub of_closing : (ended : Result (Unit {0}) KeepFault) (reason : KeepFault) (fault : TaskFault)
+    → ¬ (IsErrOf ended closing.Damaged) → ended ≡ Err reason → fault ≡ fault_of_keep reason
+    → IsOfClosing fault
+of_closing ended closing.Memory fault sound gave is = inl is
+of_closing ended closing.Store fault sound gave is = inr is
+of_closing ended closing.Damaged fault sound gave is = absurd (sound gave)
+
 -- a fault by how a keep's end went is one by what is left of the keep
 end_fault : {K L : Type 0} (is_ended is_left : K → L → Type 0) (keep : K) (left : L)
     (before after : Option (List ℕ)) (ended : Result (Unit {0}) KeepFault) (fault : TaskFault)
     → IsOfEnded ended before after fault → OnOk ended (is_ended keep left)
-    → OnErr ended (is_left keep left) → IsOfEnd is_ended is_left keep left before after fault
+    → OnErr ended (is_left keep left) → ¬ (IsErrOf ended closing.Damaged)
+    → IsOfEnd is_ended is_left keep left before after fault
 end_fault is_ended is_left keep left before after (Ok u) fault (inl ((kept, gave, is), same)) done
-    failed = absurd cc
+    failed sound = absurd cc
 end_fault is_ended is_left keep left before after (Err e) fault (inl ((kept, gave, is), same)) done
-    failed = inl ((kept, is), failed, same)
-end_fault is_ended is_left keep left before after (Ok u) fault (inr (is, ok)) done failed =
+    failed sound = inl (of_closing (Err e) kept fault sound gave is, failed, same)
+end_fault is_ended is_left keep left before after (Ok u) fault (inr (is, ok)) done failed sound =
     inr (is, done)
-end_fault is_ended is_left keep left before after (Err e) fault (inr (is, ok)) done failed = absurd cc
+end_fault is_ended is_left keep left before after (Err e) fault (inr (is, ok)) done failed sound =
+    absurd cc
 
 pub end_faults : {T K L : Type 0} (is_ended is_left : K → L → Type 0) (keep : K) (left : L)
     (before after : Option (List ℕ)) (r : Result T TaskFault) (ended : Result (Unit {0}) KeepFault)
     → IfErr r (IsOfEnded ended before after)
     → OnOk ended (is_ended keep left) → OnErr ended (is_left keep left)
+    → ¬ (IsErrOf ended closing.Damaged)
     → IfErr r (IsOfEnd is_ended is_left keep left before after)
-end_faults is_ended is_left keep left before after (Ok x) ended why done failed = tt
-end_faults is_ended is_left keep left before after (Err e) ended why done failed =
-    end_fault is_ended is_left keep left before after ended e why done failed
+end_faults is_ended is_left keep left before after (Ok x) ended why done failed sound = tt
+end_faults is_ended is_left keep left before after (Err e) ended why done failed sound =
+    end_fault is_ended is_left keep left before after ended e why done failed sound
 
 -- and so is one that comes after another, where there is none before it
 pub first_or_end_faults : {T K L : Type 0} (First : TaskFault → Type 0) (None : Type 0)
@@ -80,12 +92,15 @@ pub first_or_end_faults : {T K L : Type 0} (First : TaskFault → Type 0) (None 
     (ended : Result (Unit {0}) KeepFault)
     → IfErr r (λ fault. First fault ⊎ (None × IsOfEnded ended before after fault))
     → OnOk ended (is_ended keep left) → OnErr ended (is_left keep left)
+    → ¬ (IsErrOf ended closing.Damaged)
     → IfErr r (λ fault. First fault ⊎ (None × IsOfEnd is_ended is_left keep left before after fault))
-first_or_end_faults First None is_ended is_left keep left before after (Ok x) ended why done failed = tt
+first_or_end_faults First None is_ended is_left keep left before after (Ok x) ended why done failed
+    sound = tt
 first_or_end_faults First None is_ended is_left keep left before after (Err e) ended (inl first) done
-    failed = inl first
+    failed sound = inl first
 first_or_end_faults First None is_ended is_left keep left before after (Err e) ended (inr (none, why))
-    done failed = inr (none, end_fault is_ended is_left keep left before after ended e why done failed)
+    done failed sound =
+    inr (none, end_fault is_ended is_left keep left before after ended e why done failed sound)
 
 -- what is so of a result, whichever it is
 pub either_end : {T E P Q : Type 0} (r : Result T E) → OnOk r P → OnErr r Q → P ⊎ Q

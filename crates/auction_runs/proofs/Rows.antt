@@ -1,6 +1,6 @@
 -- The rows of a lot file that was imported.
 use Rattle.std.proofs.Common.{◌≡◌, ◌≢◌, ◌∙◌, ◌⊎◌, ◌++◌, ℕ, ◌≤◌, List, [], ◌∷◌, Bool, Option, Some, None, Result, Ok, Err, ap, arith, inl, inr, refl, subst, sym}
-use Rattle.std.specs.Prelude.{IfErr, IfOk, IsOk, OnErr, OnOk}
+use Rattle.std.specs.Prelude.{IfErr, IfOk, IsErrOf, IsOk, OnErr, OnOk}
 use Rattle.std.specs.Io.KnownBytes.{Appends, Keeps}
 use Rattle.std.specs.List.{FoldsTo}
 use Rattle.house_rows.specs.Tables.{Tables}
@@ -8,6 +8,7 @@ use Rattle.office.specs.Imports.{HasEnded, HasListed, HasOrdered, IsCounted, Unl
 use Rattle.office.specs.Lines.{totals_line}
 use Rattle.office.specs.Tallies.{counted, nothing}
 use Rattle.house_rows.specs.declared.fault.KeepFault.{KeepFault}
+use Rattle.house_rows.specs.declared.fault.KeepFault.TheVariants as closing
 use Rattle.house_rows.specs.declared.keep.Keep as keep
 use Rattle.office.specs.declared.fault.ImportFault.{ImportFault}
 use Rattle.office.specs.declared.fault.ImportFault.TheVariants as importing
@@ -22,7 +23,7 @@ use Rattle.site_request.specs.declared.asked.Asked.{Asked}
 use Rattle.steps.specs.Reading.{records_of}
 use Rattle.auction_runs.specs.Faults.{IsEndFault, fault_of_import, fault_of_keep}
 use Rattle.auction_runs.specs.Listed.{HasAll, HasDealt, HasDealtSome, HasFault, HasPrinted, HasRefused, HasTaken, IsDealtPart, IsHad, IsKnown, IsUnimported, IsWhole}
-use Rattle.auction_runs.proofs.Outcomes.{either_end}
+use Rattle.auction_runs.proofs.Outcomes.{either_end, of_closing}
 use Rattle.auction_runs.specs.declared.fault.TaskFault.{TaskFault}
 use Rattle.auction_runs.specs.declared.fault.TaskFault.TheVariants.{Write}
 
@@ -364,19 +365,24 @@ module _ {K L R : Type 0} (k : keep.Ghosts K) (remaining : R → Option (List �
       → OnOk listed (HasTaken k.content k.is_failed k.is_honest k.may_leave (λ q. q ≡ kept) by given)
       → IfErr listed (HasFault k remaining lots by before after given kept)
       → OnOk ended (is_ended kept left) → OnErr ended (is_left kept left)
+      → ¬ (IsErrOf ended closing.Damaged)
       → (IsOk ended → IfOk listed (λ report. (report.refused ≢ 0) × Quiet))
       → IfErr listed Told → (IsOk listed → IfErr ended (λ end. Told (fault_of_keep end)))
       → (Quiet × HasRefused k remaining lots (λ q. is_ended q left) by before after given)
       ⊎ ((fault : TaskFault)
       × IsUnimported k remaining lots is_ended is_left by before after given left fault × Told fault)
-  import_told (Ok report) (Ok u) rows opened house failed done undone refused told end_is =
+  import_told (Ok report) (Ok u) rows opened house failed done undone sound refused told end_is =
       let (some, quiet) = refused refl in
       inl (quiet, (report, some, whole (λ q. is_ended q left) report done opened house rows))
-  import_told (Ok report) (Err e) rows opened house failed done undone refused told end_is =
+  import_told (Ok report) (Err e) rows opened house failed done undone sound refused told end_is =
       inr (
         fault_of_keep e,
-        inr (report, (e, refl), whole (λ q. is_left q left) report undone opened house rows),
+        inr (
+          report,
+          of_closing (Err e) e (fault_of_keep e) sound refl refl,
+          whole (λ q. is_left q left) report undone opened house rows,
+        ),
         end_is refl,
       )
-  import_told (Err fault) ended rows opened house failed done undone refused told end_is =
+  import_told (Err fault) ended rows opened house failed done undone sound refused told end_is =
       inr (fault, inl (kept, either_end ended done undone, failed), told)

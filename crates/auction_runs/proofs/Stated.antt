@@ -17,7 +17,7 @@ use Rattle.settle.specs.Written.{IsWritten}
 use Rattle.settle.specs.declared.fault.SettleFault.{SettleFault}
 use Rattle.settle.specs.declared.fault.SettleFault.TheVariants as settling
 use Rattle.site.specs.Replies.{IsReadable}
-use Rattle.auction_runs.proofs.Outcomes.{either_end}
+use Rattle.auction_runs.proofs.Outcomes.{either_end, of_closing}
 use Rattle.auction_runs.specs.Faults.{IsEndFault, fault_of_settling, fault_of_statement}
 use Rattle.auction_runs.specs.Stated.{HasRead, IsAccount, IsUnmade, IsUnread, IsUnstated, IsUnwritten, account_text}
 use Rattle.auction_runs.specs.declared.fault.TaskFault.{TaskFault}
@@ -150,11 +150,12 @@ pub unmade : {K L : Type 0} (k : keep.Ghosts K) (is_ended is_left : K → L → 
     → (k.is_honest last → IfOk s (IsAccount (k.content given) asked))
     → IsRead k.content k.is_failed k.is_honest k.may_leave given last
     → OnOk ended (is_ended last left) → OnErr ended (is_left last left)
+    → ¬ (IsErrOf ended kept.Damaged)
     → IfErr r (IsUnmade k (λ q. is_ended q left) (λ q. is_left q left) asked given)
-unmade k is_ended is_left asked given last left (Ok x) s ended why first unread shown read done failed =
-    tt
+unmade k is_ended is_left asked given last left (Ok x) s ended why first unread shown read done failed
+    sound = tt
 unmade k is_ended is_left asked given last left (Err e) (Err f) ended why first unread shown read done
-    failed =
+    failed sound =
     let same : f ≡ e = cc first in
     inl (
       last,
@@ -162,11 +163,11 @@ unmade k is_ended is_left asked given last left (Err e) (Err f) ended why first 
       either_end ended done failed,
     )
 unmade k is_ended is_left asked given last left (Err e) (Ok x) ended (inl is) first unread shown read
-    done failed = absurd cc
+    done failed sound = absurd cc
 unmade k is_ended is_left asked given last left (Err e) (Ok x) ended (inr (reason, gave, is)) first unread
-    shown read done failed =
+    shown read done failed sound =
     inr (
-      (reason, is),
+      of_closing ended reason e sound gave is,
       (
         x,
         record {

@@ -22,7 +22,7 @@ use Rattle.house_rows.specs.declared.fault.KeepFault.{KeepFault}
 use Rattle.house_rows.specs.declared.fault.KeepFault.TheVariants as kept
 use Rattle.house_rows.specs.declared.keep.Keep as keep
 use Rattle.house_rows.specs.declared.refusal.Refusal.{Refusal}
-use Rattle.auction_runs.proofs.Outcomes.{either_end}
+use Rattle.auction_runs.proofs.Outcomes.{either_end, of_closing}
 use Rattle.auction_runs.specs.Faults.{IsEndFault, fault_of_keep}
 use Rattle.auction_runs.specs.Tabled.{HasSet, IsOwnChange, IsOwnOrNone, IsTable, IsTabled, IsUndone, IsUntabled, IsUntold}
 use Rattle.auction_runs.specs.declared.fault.TaskFault.{TaskFault}
@@ -240,12 +240,13 @@ pub untabled : {K L : Type 0} (content : K → Tables) (is_failed : K → Bool) 
     → IfErr s (IsUndone content is_failed is_honest moment command given last)
     → (is_honest last → IfOk s (IsTabled content may_leave moment command given last))
     → OnOk ended (is_ended last left) → OnErr ended (is_left last left)
+    → ¬ (IsErrOf ended kept.Damaged)
     → IfErr r (IsUntabled content is_failed is_honest may_leave (λ k. is_ended k left)
     (λ k. is_left k left) moment command given)
 untabled content is_failed is_honest may_leave is_ended is_left moment command given last left (Ok x) s
-    ended why first undone tabled done failed = tt
+    ended why first undone tabled done failed sound = tt
 untabled content is_failed is_honest may_leave is_ended is_left moment command given last left (Err e)
-    (Err f) ended why first undone tabled done failed =
+    (Err f) ended why first undone tabled done failed sound =
     let same : f ≡ e = cc first in
     inl (
       last,
@@ -253,11 +254,11 @@ untabled content is_failed is_honest may_leave is_ended is_left moment command g
       either_end ended done failed,
     )
 untabled content is_failed is_honest may_leave is_ended is_left moment command given last left (Err e)
-    (Ok x) ended (inl is) first undone tabled done failed = absurd cc
+    (Ok x) ended (inl is) first undone tabled done failed sound = absurd cc
 untabled content is_failed is_honest may_leave is_ended is_left moment command given last left (Err e)
-    (Ok x) ended (inr (reason, gave, is)) first undone tabled done failed =
+    (Ok x) ended (inr (reason, gave, is)) first undone tabled done failed sound =
     inr (
-      (reason, is),
+      of_closing ended reason e sound gave is,
       (
         x,
         record {

@@ -39,6 +39,10 @@ abbrev pub IsEndFault : Result (Unit {0}) KeepFault → TaskFault → Type 0
 IsEndFault ended fault =
     (kept : KeepFault) × (ended ≡ Err kept) × (fault ≡ fault_of_keep kept)
 
+-- a fault that an end reported, which is never damage: memory was refused, or the store failed
+abbrev pub IsOfClosing : TaskFault → Type 0
+IsOfClosing fault = (fault ≡ NoMemory) ⊎ (fault ≡ FailedStore)
+
 -- a fault after what a run did, by how its keep's end went: the end reported it and nothing was written,
 -- or the output failed after it
 abbrev pub IsOfEnded : Result (Unit {0}) KeepFault → Option (List ℕ) → Option (List ℕ) → TaskFault
@@ -50,7 +54,7 @@ IsOfEnded ended before after fault =
 abbrev pub IsOfEnd : {K L : Type 0} → (K → L → Type 0) → (K → L → Type 0) → K → L → Option (List ℕ)
     → Option (List ℕ) → TaskFault → Type 0
 IsOfEnd is_ended is_left keep left before after fault =
-    (IsOfKeep fault × is_left keep left × Keeps before after)
+    (IsOfClosing fault × is_left keep left × Keeps before after)
     ⊎ ((fault ≡ FailedOutput) × is_ended keep left)
 
 -- what stands for a fault of the words that name settings

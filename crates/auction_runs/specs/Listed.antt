@@ -21,7 +21,7 @@ use Rattle.site.specs.Replies.{IsReadable, IsStep}
 use Rattle.site_request.specs.declared.asked.Asked.{Asked}
 use Rattle.steps.specs.Reading.{records_of}
 use Rattle.auction_runs.specs.Begun.{IsUnbegun}
-use Rattle.auction_runs.specs.Faults.{IsOfKeep, fault_of_import}
+use Rattle.auction_runs.specs.Faults.{IsOfClosing, IsOfKeep, fault_of_import}
 use Rattle.auction_runs.specs.Over.{IsOver}
 use Rattle.auction_runs.specs.declared.fault.TaskFault.{TaskFault}
 use Rattle.auction_runs.specs.declared.fault.TaskFault.TheVariants.{Damaged, Member, Store, Write}
@@ -217,5 +217,5 @@ abbrev pub IsUnimported : {K L R : Type 0} → keep.Ghosts K → (R → Option (
 IsUnimported {K} k remaining lots is_ended is_left by before after given left fault =
     ((last : K) × IsOver is_ended is_left last left
     × HasFault k remaining lots by before after given last fault)
-    ⊎ ((report : Imported) × IsOfKeep fault
+    ⊎ ((report : Imported) × IsOfClosing fault
     × IsWhole k remaining lots (λ last. is_left last left) by before after given report)

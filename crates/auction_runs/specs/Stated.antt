@@ -13,7 +13,7 @@ use Rattle.settle.specs.Text.{statement_csv, statement_text}
 use Rattle.settle.specs.Zoned.{IsZoneOf}
 use Rattle.settle.specs.declared.zone.Zone.{Zone}
 use Rattle.site.specs.Replies.{IsReadable}
-use Rattle.auction_runs.specs.Faults.{IsOfKeep}
+use Rattle.auction_runs.specs.Faults.{IsOfClosing, IsOfKeep}
 use Rattle.auction_runs.specs.declared.fault.TaskFault.{TaskFault}
 use Rattle.auction_runs.specs.declared.fault.TaskFault.TheVariants.{Damaged, Member, Memory, Order, Store, Write}
 use Rattle.auction_runs.specs.declared.statement.Inquiry.{Inquiry}
@@ -77,7 +77,7 @@ abbrev pub IsUnmade : {K : Type 0} → keep.Ghosts K → (K → Type 0) → (K �
 IsUnmade {K} k is_ended is_left asked given fault =
     ((last : K) × IsUnread k.content k.is_failed k.is_honest asked given last fault
     × (is_ended last ⊎ is_left last))
-    ⊎ (IsOfKeep fault × ((account : Account)
+    ⊎ (IsOfClosing fault × ((account : Account)
     × HasRead k.content k.is_failed k.is_honest k.may_leave is_left asked given account))
 
 -- the account that was read wasn't written, or not handed on: a beginning of it may have been

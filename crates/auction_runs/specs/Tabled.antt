@@ -15,7 +15,7 @@ use Rattle.house_rows.specs.Runs.{entry}
 use Rattle.house_rows.specs.Tables.{Tables, band_tables, tables_of}
 use Rattle.house_rows.specs.Verdict.{IsHistory, verdict}
 use Rattle.steps.specs.Table.{Band}
-use Rattle.auction_runs.specs.Faults.{IsOfKeep}
+use Rattle.auction_runs.specs.Faults.{IsOfClosing, IsOfKeep}
 use Rattle.auction_runs.specs.Over.{IsOver}
 use Rattle.auction_runs.specs.Printed.{edition_line}
 use Rattle.auction_runs.specs.declared.fault.TaskFault.{TaskFault}
@@ -82,7 +82,7 @@ abbrev pub IsUntabled : {K : Type 0} → (K → Tables) → (K → Bool) → (K 
 IsUntabled {K} content is_failed is_honest may_leave is_ended is_left moment command given fault =
     ((last : K) × IsUndone content is_failed is_honest moment command given last fault
     × (is_ended last ⊎ is_left last))
-    ⊎ (IsOfKeep fault × ((edition : ℕ)
+    ⊎ (IsOfClosing fault × ((edition : ℕ)
     × HasSet content is_honest may_leave is_left moment command given edition))
 
 -- why no edition was told: the command was not done, and nothing was written; or it was and the keep was

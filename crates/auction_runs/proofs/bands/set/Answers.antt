@@ -9,3 +9,4 @@ returns-clause-fault g c =
     c.set_bands-edition.result c.end-ended.result.0 c.outcome_after_end.ensures.fault
     c.outcome_after_end.ensures.first c.set_bands-edition.ensures.fault
     c.set_bands-edition.ensures.done c.end-ended.ensures.ended c.end-ended.ensures.left
+    c.end-ended.ensures.sound

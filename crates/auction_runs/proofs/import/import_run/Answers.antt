@@ -39,5 +39,5 @@ returns-clause-told g c =
     λ e. import_told g.K.Keep g.R.Read.remaining c.args.lots g.K.Ends.is_ended g.K.Ends.is_left c.args.by
     (g.W.Write.contents c.args.output.now) (g.W.Write.contents listed.new.output) c.args.keep
     listed.result.1 end.result.1 listed.result.0 end.result.0 listed.ensures.listed listed.ensures.open
-    listed.ensures.taken listed.ensures.fault end.ensures.ended end.ensures.left
+    listed.ensures.taken listed.ensures.fault end.ensures.ended end.ensures.left end.ensures.sound
     (c.finish.ensures.refused e) c.finish.ensures.told c.finish.ensures.end_told

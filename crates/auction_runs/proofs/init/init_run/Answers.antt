@@ -19,4 +19,5 @@ returns-clause-reported g c =
     reported_by g.E.Sink _ _ _ _ c.finish.result run.done run.fault run.quiet run.told
     (end_faults g.K.Ends.is_ended g.K.Ends.is_left c.args.keep c.end-ended.result.1
     (g.W.Write.contents c.args.output.now) (g.W.Write.contents c.finish.new.output) c.finish.result
-    c.end-ended.result.0 c.finish.ensures.fault c.end-ended.ensures.ended c.end-ended.ensures.left)
+    c.end-ended.result.0 c.finish.ensures.fault c.end-ended.ensures.ended c.end-ended.ensures.left
+    c.end-ended.ensures.sound)

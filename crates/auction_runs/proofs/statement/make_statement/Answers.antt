@@ -8,4 +8,4 @@ returns-clause-fault g c =
     c.read_statement-made.new.keep c.end-ended.result.1 c.outcome_after_end.result
     c.read_statement-made.result c.end-ended.result.0 c.outcome_after_end.ensures.fault
     c.outcome_after_end.ensures.first read.fault read.shown read.read c.end-ended.ensures.ended
-    c.end-ended.ensures.left
+    c.end-ended.ensures.left c.end-ended.ensures.sound
