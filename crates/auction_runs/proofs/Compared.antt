@@ -19,3 +19,10 @@ pub uncompared : {T : Type 0} (Unread : TaskFault → Type 0) (f : AuditFault) (
     → IfErr result (λ fault. IsOfKeep fault ⊎ Unread fault)
 uncompared Unread f (Ok verdict) gave = absurd gave.1
 uncompared Unread f (Err report) gave = inl (subst IsOfKeep (sym gave.1) (of_keep f))
+
+-- where an audit gave a fault, what is so of the one that stands for it is so of what is told
+pub unaudited : {T : Type 0} (Why : TaskFault → Type 0) (f : AuditFault) (result : Result T TaskFault)
+    → IsErr result × IsErrAnd result (λ report. report ≡ fault_of_audit f)
+    → Why (fault_of_audit f) → IfErr result Why
+unaudited Why f (Ok verdict) gave why = absurd gave.1
+unaudited Why f (Err report) gave why = subst Why (sym gave.1) why

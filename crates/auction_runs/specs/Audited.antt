@@ -18,7 +18,8 @@ use Rattle.site_audit.specs.declared.verdict.Verdict.{Verdict}
 use Rattle.site_audit.specs.declared.verdict.Verdict.TheVariants.{Equal, Apart}
 use Rattle.wire.specs.Frame.{IsFront}
 use Rattle.wire.specs.declared.fault.WireFault.{WireFault}
-use Rattle.auction_runs.specs.Faults.{IsOfKeep}
+use Rattle.auction_runs.specs.Begun.{IsUnbegun}
+use Rattle.auction_runs.specs.Faults.{fault_of_audit}
 use Rattle.auction_runs.specs.Printed.{apart_line, equal_line}
 use Rattle.auction_runs.specs.declared.audit.Houses.{Houses}
 use Rattle.auction_runs.specs.declared.audit.Houses.TheVariants.{New, Living}
@@ -57,11 +58,12 @@ AreUnread left_bytes right_bytes left right fault = IsUnread left_bytes Left lef
     ⊎ ((lefts : List (List ℕ)) × HasMessages left_bytes left lefts
     × IsUnread right_bytes Right right fault)
 
--- why two runs are not compared: a keep reported the fault, or a side gives no messages
-abbrev pub IsUncompared : {K L R : Type 0} → (L → Option (List ℕ)) → (R → Option (List ℕ))
-    → Run K L → Run K R → TaskFault → Type 0
-IsUncompared left_bytes right_bytes left right fault =
-    IsOfKeep fault ⊎ AreUnread left_bytes right_bytes left.source right.source fault
+-- why no sites are begun over two keeps: none is over the one or over the other
+abbrev pub AreUnbegun : {K : Type 0} → (K → Tables) → (K → Bool) → (K → Type 0) → K → K → TaskFault
+    → Type 0
+AreUnbegun content is_failed is_honest left right fault =
+    IsUnbegun (is_honest left) (is_failed left) (content left) fault
+    ⊎ IsUnbegun (is_honest right) (is_failed right) (content right) fault
 
 -- what an audit of two lists says, over two keeps and by a zone. Of new houses: over keeps of any two
 -- houses, and that an audit can begin is part of it. Of living ones: over keeps that have the tables
@@ -103,6 +105,33 @@ pub record HasAudited {K L R : Type 0} (houses : Houses) (content : K → Tables
   pub found : Finds houses content is_failed is_honest c zone lefts rights left.keep right.keep
       left_keep right_keep (Ok verdict)
 
+-- the messages of two runs were given, and the audit of them over their houses had a fault
+pub record HasNotAudited {K L R : Type 0} (houses : Houses) (content : K → Tables)
+    (is_failed : K → Bool) (is_honest : K → Type 0) (left_bytes : L → Option (List ℕ))
+    (right_bytes : R → Option (List ℕ)) (c : ℕ) (left : Run K L) (right : Run K R)
+    (fault : TaskFault) : Type 0 where
+  pub lefts : List (List ℕ)
+  pub rights : List (List ℕ)
+  pub left_messages : HasMessages left_bytes left.source lefts
+  pub right_messages : HasMessages right_bytes right.source rights
+  pub zone : Zone
+  pub kept_zone : is_honest left.keep → IsZoneOf (content left.keep).settings.zone zone
+  pub left_keep : K
+  pub right_keep : K
+  pub auditing : AuditFault
+  pub report : fault ≡ fault_of_audit auditing
+  pub found : Finds houses content is_failed is_honest c zone lefts rights left.keep right.keep
+      left_keep right_keep (Err auditing)
+
+-- why two runs are not compared: no site is begun over a keep, or the audit had a fault; or a side
+-- gives no messages
+abbrev pub IsUncompared : {K L R : Type 0} → Houses → (K → Tables) → (K → Bool) → (K → Type 0)
+    → (L → Option (List ℕ)) → (R → Option (List ℕ)) → ℕ → Run K L → Run K R → TaskFault → Type 0
+IsUncompared houses content is_failed is_honest left_bytes right_bytes c left right fault =
+    (AreUnbegun content is_failed is_honest left.keep right.keep fault
+    ⊎ HasNotAudited houses content is_failed is_honest left_bytes right_bytes c left right fault)
+    ⊎ AreUnread left_bytes right_bytes left.source right.source fault
+
 -- a verdict was reported, and whether the runs are equal
 abbrev pub IsReported : Option (List ℕ) → Option (List ℕ) → Verdict → Bool → Type 0
 IsReported before after (Equal replies) true = Appends before after (equal_line (length replies.items))
@@ -128,4 +157,5 @@ abbrev pub IsUnreported : {K L R : Type 0} → Houses → (K → Tables) → (K 
 IsUnreported houses content is_failed is_honest left_bytes right_bytes c left right before after fault =
     ((fault ≡ Write) × ((verdict : Verdict)
     × HasAudited houses content is_failed is_honest left_bytes right_bytes c left right verdict))
-    ⊎ (IsUncompared left_bytes right_bytes left right fault × Keeps before after)
+    ⊎ (IsUncompared houses content is_failed is_honest left_bytes right_bytes c left right fault
+    × Keeps before after)

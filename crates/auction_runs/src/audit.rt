@@ -120,7 +120,8 @@ fn compare<L: Source + Drop, R: Source + Drop, K: Keep + Drop>(
 ) -> Result<Verdict, TaskFault>
     ensures found { IfOk result
         (HasAudited houses K.content K.is_failed K.is_honest L.left R.left caller left right) }
-    ensures fault { IfErr result (IsUncompared L.left R.left left right) }
+    ensures fault { IfErr result (IsUncompared houses K.content K.is_failed K.is_honest L.left
+        R.left caller left right) }
 {
     let (mut left_site, mut right_site) = both_begun(alloc, left.keep, right.keep)?;
     let lefts = messages(alloc, left.source, Side::Left)?;
