@@ -1,5 +1,5 @@
 -- What a look at a surplus reports.
-use Rattle.std.specs.Prelude.{◌≡◌, ◌⊎◌, ℕ, List, length, Bool, true, false, Option, Result, Ok}
+use Rattle.std.specs.Prelude.{◌≡◌, ◌⊎◌, ℕ, List, length, Bool, true, false, Option, Result, Ok, Err}
 use Rattle.std.specs.Io.KnownBytes.{Appends, Keeps}
 use Rattle.std.specs.List.{AllZip}
 use Rattle.house_rows.specs.declared.settings.Settings.{Settings}
@@ -15,8 +15,8 @@ use Rattle.site_audit.specs.declared.fault.AuditFault.{AuditFault}
 use Rattle.site_audit.specs.declared.outcome.Surplus.{Surplus}
 use Rattle.site_audit.specs.declared.outcome.Surplus.TheVariants.{Same, NotCovered}
 use Rattle.steps.specs.Table.{IsBandTable}
-use Rattle.auction_runs.specs.Audited.{HasMessages, IsUnread}
-use Rattle.auction_runs.specs.Faults.{IsOfKeep}
+use Rattle.auction_runs.specs.Audited.{AreUnbegun, HasMessages, IsUnread}
+use Rattle.auction_runs.specs.Faults.{fault_of_audit}
 use Rattle.auction_runs.specs.Printed.{not_covered_line, same_line}
 use Rattle.auction_runs.specs.declared.audit.Houses.{Houses}
 use Rattle.auction_runs.specs.declared.audit.Houses.TheVariants.{New, Living}
@@ -61,9 +61,29 @@ pub record HasTried {K S : Type 0} (houses : Houses) (content : K → Tables) (i
   pub found : TellsOf houses content is_failed is_honest raise zone texts trial.left trial.right
       left_keep right_keep (Ok report)
 
--- why nothing was found: a keep reported the fault, or the source gives no messages
-abbrev pub IsUntried : {K S : Type 0} → (S → Option (List ℕ)) → Trial K S → TaskFault → Type 0
-IsUntried bytes_of trial fault = IsOfKeep fault ⊎ IsUnread bytes_of Only trial.source fault
+-- the messages of the source were given, and raising a bid of them over the keeps had a fault
+pub record HasNotTried {K S : Type 0} (houses : Houses) (content : K → Tables) (is_failed : K → Bool)
+    (is_honest : K → Type 0) (bytes_of : S → Option (List ℕ)) (raise : Raise) (trial : Trial K S)
+    (fault : TaskFault) : Type 0 where
+  pub texts : List (List ℕ)
+  pub messages : HasMessages bytes_of trial.source texts
+  pub zone : Zone
+  pub kept_zone : is_honest trial.left → IsZoneOf (content trial.left).settings.zone zone
+  pub left_keep : K
+  pub right_keep : K
+  pub auditing : AuditFault
+  pub report : fault ≡ fault_of_audit auditing
+  pub found : TellsOf houses content is_failed is_honest raise zone texts trial.left trial.right
+      left_keep right_keep (Err auditing)
+
+-- why nothing was found: no site is begun over a keep, or raising the bid had a fault; or the source
+-- gives no messages
+abbrev pub IsUntried : {K S : Type 0} → Houses → (K → Tables) → (K → Bool) → (K → Type 0)
+    → (S → Option (List ℕ)) → Raise → Trial K S → TaskFault → Type 0
+IsUntried houses content is_failed is_honest bytes_of raise trial fault =
+    (AreUnbegun content is_failed is_honest trial.left trial.right fault
+    ⊎ HasNotTried houses content is_failed is_honest bytes_of raise trial fault)
+    ⊎ IsUnread bytes_of Only trial.source fault
 
 -- what was found was printed, and whether the bid is covered
 abbrev pub IsShown : Option (List ℕ) → Option (List ℕ) → Surplus → Bool → Type 0
@@ -88,4 +108,4 @@ abbrev pub IsUnshown : {K S : Type 0} → Houses → (K → Tables) → (K → B
 IsUnshown houses content is_failed is_honest bytes_of raise trial before after fault =
     ((fault ≡ Write) × ((report : Surplus)
     × HasTried houses content is_failed is_honest bytes_of raise trial report))
-    ⊎ (IsUntried bytes_of trial fault × Keeps before after)
+    ⊎ (IsUntried houses content is_failed is_honest bytes_of raise trial fault × Keeps before after)

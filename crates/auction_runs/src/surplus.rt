@@ -71,7 +71,8 @@ fn look<S: Source + Drop, K: Keep + Drop>(
 ) -> Result<Surplus, TaskFault>
     ensures found { IfOk result
         (HasTried houses K.content K.is_failed K.is_honest S.left raise trial) }
-    ensures fault { IfErr result (IsUntried S.left trial) }
+    ensures fault { IfErr result
+        (IsUntried houses K.content K.is_failed K.is_honest S.left raise trial) }
 {
     let (mut left, mut right) = both_begun(alloc, trial.left, trial.right)?;
     let texts = messages(alloc, trial.source, Side::Only)?;
