@@ -26,14 +26,15 @@ pub fn text<'a>(words: &ArgMatches<'a>, name: &'static str) -> Result<&'a str, R
     }
 }
 
-/// A number of the words, in a range.
+/// A number of the words, in a range. Else what is refused has its name.
 pub fn number(
     words: &ArgMatches<'_>,
     name: &'static str,
     least: u64,
     most: u64,
 ) -> Result<u64, Refused>
-    ensures { IfOk result (IsInRange least most) }
+    ensures within { IfOk result (IsInRange least most) }
+    ensures named { IfErr result (λ refused. refused.name.now ≡ name.now) }
 {
     match words.get_one(name) {
         Some(number) if least <= number && number <= most => Ok(number),
