@@ -1,9 +1,9 @@
 //! Connections over TCP, which come one after the other to a port of this machine.
 //!
-//! Promised: no more than to be safe and to return. No clause says which bytes a socket brings or
-//! takes, that a connection on which nothing moves is given up, that a call is made again which was
-//! interrupted, or that the peer may read its last replies: tests look at these. Read `listener`
-//! first, and then `stream`.
+//! Promised: each connection that comes is counted, and the port is given up with the last of them.
+//! No clause says which bytes a socket brings or takes, that a connection on which nothing moves is
+//! given up, that a call is made again which was interrupted, or that the peer may read its last
+//! replies: tests look at these. Read `listener` first, and then `stream`.
 #![tactic(auto)]
 
 mod listener;

@@ -1,5 +1,6 @@
 //! The connections of a listener.
-ghost use Rattle.std.specs.Prelude.{⊤, ℕ, IfOk};
+ghost use Rattle.std.specs.Prelude.{◌≡◌, ℕ, IfOk};
+ghost use Rattle.tcp.specs.Coming.{Accepts, IsAsOpen};
 
 use crate::stream::Steady;
 use device::{Failure, Reading, Writing};
@@ -15,7 +16,8 @@ const STILL: u64 = 30;
 // How many pieces are thrown away of what comes after the last reply.
 const PIECES: u32 = 60;
 
-/// The connections of a listener. None of them says what its bytes are.
+/// The connections of a listener. None of them says what its bytes are. Each that comes is counted,
+/// and the last of them closes the port.
 #[derive(Drop)]
 pub struct Listener {
     // None once the last connection has come. Who comes after it is refused at once, and may ask
@@ -29,7 +31,9 @@ pub struct Listener {
 
 impl Listener {
     // So many that come to it.
-    fn new(listener: TcpListener, count: u64) -> Listener {
+    fn new(listener: TcpListener, count: u64) -> Listener
+        ensures { result.left ≡ count }
+    {
         Listener {
             listener: Some(listener),
             left: count,
@@ -38,7 +42,9 @@ impl Listener {
     }
 
     // The stream that comes next.
-    fn next_stream(&mut self) -> Result<TcpStream, Failure> {
+    fn next_stream(&mut self) -> Result<TcpStream, Failure>
+        ensures { Accepts self.old result self.new }
+    {
         let Some(listener) = &self.listener else {
             return Err(Failure);
         };
@@ -95,7 +101,7 @@ pub trait Listen: Sized + Connections + Drop {
 
 impl Listen for Listener {
     // No clause of a socket says at which port it listens.
-    ghost is_at = { λ _ _ _. ⊤ };
+    ghost is_at = { λ listener _ count. listener.left ≡ count };
 
     fn listen(rt: &HostRuntime, port: u16, count: u64) -> Result<Listener, Failure> {
         match TcpListener::bind(rt, (Ipv4Addr::LOCALHOST, port)) {
@@ -110,9 +116,9 @@ impl Connections for Listener {
 
     type Output = Writing<Steady>;
 
-    ghost accepts = { λ _ _ _. ⊤ };
+    ghost accepts = { λ old result new. Accepts old result new };
 
-    ghost ends = { λ _ _ _ _. ⊤ };
+    ghost ends = { λ old _ _ new. IsAsOpen old new };
 
     fn accept(&mut self) -> Result<Option<Connection<Reading<Steady>, Writing<Steady>>>, Failure> {
         let stream = self.next_stream()?;
@@ -130,7 +136,7 @@ impl Connections for Listener {
         _connection: Connection<Reading<Steady>, Writing<Steady>>,
         report: Result<Served, ServeFault>,
     )
-        ensures { ⊤ }
+        ensures { IsAsOpen self.old self.new }
     {
         if let Some(stream) = self.stream.take()
             && report.is_ok()
