@@ -1,5 +1,5 @@
 -- What an opening has, of a connection and of two files, whose trees lie in any order.
-use Rattle.std.proofs.Common.{◌≡◌, ◌⊎◌, ◌∙◌, IsTrue, ap, arith, inl, inr, refl, subst, sym}
+use Rattle.std.proofs.Common.{◌≡◌, ◌≢◌, ◌⊎◌, ◌∙◌, IsTrue, ap, arith, inl, inr, refl, subst, sym}
 use Rattle.std.proofs.Math.Logic.{∥∥₁_map}
 use Rattle.file_order.proofs.RecoveredLemmas.{list_shaped}
 use Rattle.sqlite_disk.specs.Disk.{MoreFaults}
@@ -16,7 +16,7 @@ use Rattle.sqlite_store.specs.FileStore.{recovers, view}
 use Rattle.sqlite_store.specs.Laws.{settled_at, stays_at}
 use Rattle.sqlite_store.specs.declared.store.FileStore.{FileStore}
 use Rattle.sqlite.specs.Effect.{Database}
-use Rattle.sqlite.specs.Files.{AreFound, AreFoundIn, FailsToOpenFiles, Finds, IsOpened, faults_left, faults_of, file_state, image_of, over_files}
+use Rattle.sqlite.specs.Files.{AreFound, AreFoundIn, FailsToOpenFiles, Finds, IsOpened, LeavesFiles, faults_left, faults_of, file_state, image_of, over_files}
 use Rattle.sqlite.specs.Held.{Held}
 use Rattle.sqlite.specs.Start.{FindsIn}
 use Rattle.sqlite.specs.State.{HasCleanDisk}
@@ -38,7 +38,7 @@ use Rattle.store.specs.InOrder.{order_state, over_order}
 use Rattle.store.specs.Kept.{House, MayLeave, content}
 use Rattle.store_files.proofs.Crashed.{found_left, found_same, recovered}
 use Rattle.store_files.proofs.Orders.{reordered_back, reordered_then}
-use Rattle.store_files.specs.InOrder.{FindsHeld, FindsHouse, FindsLeft, FindsNoTable, HasTrees, HoldsNoDatabase, HoldsNoTable, HoldsSoundFirstHouse, HoldsSoundHouse, IsCrashed, IsFound, LeavesFilesInOrder, MayShow}
+use Rattle.store_files.specs.InOrder.{FindsHeld, FindsHouse, FindsLeft, FindsNoTable, HasTrees, HoldsNoDatabase, HoldsNoTable, HoldsSoundFirstHouse, HoldsSoundHouse, HoldsObject, IsCrashed, IsFound, LeavesFilesInOrder, MayShow}
 
 -- ---- a house by its names
 
@@ -148,6 +148,16 @@ module _ {D : Type 0} (g : disk.Ghosts D) (given : Files D) (stays : SeenMayStay
       let committed : Database = (file_state conn).committed in
       let schema : committed.schema ≡ db.schema = one_schema committed db (opened.1 opened.0.is_open).1 (finds.holds db.trees held) sound in
       sym schema ∙ ap (λ (d : Database). d.schema) (sym opened.0.clean) ∙ none
+
+  -- over files that hold one, it lists one
+  pub lists_object : IsOpened conn → Finds given conn → HoldsObject (image_of g given) → (file_state conn).now.schema ≢ no_schema
+  lists_object opened finds held = λ none. held.3 (holds_no_table opened finds none held.0 held.1 held.2)
+
+  -- a store in which a crash finds nothing new holds what the files held
+  pub leaves_found : IsOpened conn → Finds given conn → (store : FileStore D g) → ((db : Trees) → recovers store db → recovers conn.store db) → LeavesFiles given (Store store)
+  leaves_found opened finds store crash = λ found may.
+      let is : IsFound g given found = found_at found opened finds (crash found may) in
+      (is.found, is.holds)
 
   -- what it found in them is a database without one
   pub finds_no_table : IsOpened conn → Finds given conn → (file_state conn).now.schema ≡ no_schema → FindsNoTable (image_of g given)

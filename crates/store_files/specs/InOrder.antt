@@ -1,6 +1,6 @@
 -- A keep over two files whose trees are shown in the order of a house: what an opening of such
 -- files takes, and what a crash leaves of them. Start here.
-use Rattle.std.specs.Prelude.{◌≡◌, ◌⊎◌, Bool, IsTrue, [], false, true}
+use Rattle.std.specs.Prelude.{◌≡◌, ◌≢◌, ◌⊎◌, Bool, IsTrue, [], false, true}
 use Rattle.sqlite_disk.specs.declared.Disk as disk
 use Rattle.sqlite_disk.specs.declared.Files.{Files}
 use Rattle.sqlite_wal.specs.Files.{outcomes}
@@ -46,6 +46,11 @@ pub record HoldsTables (image : Image) (t : Tables) : Type 0 where
 abbrev pub HoldsNoTable : Image → Type 0
 HoldsNoTable image = (db : Database) → IsDatabase db → HoldsDatabase image db.trees
     → db.schema ≡ no_schema
+
+-- a database that lists a table, an index or a view
+abbrev pub HoldsObject : Image → Type 0
+HoldsObject image = (db : Database) × IsDatabase db × HoldsDatabase image db.trees
+    × (db.schema ≢ no_schema)
 
 -- a keep has the tables that the names find in what two files hold
 abbrev pub HasTablesHeld : {D : Type 0} {g : disk.Ghosts D} → Image

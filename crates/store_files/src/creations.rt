@@ -2,12 +2,12 @@
 ghost use Rattle.std.specs.Prelude.{◌≡◌, [], false, true, IfErr, IfOk};
 ghost use Rattle.house_rows.specs.Tables.{Tables, tables_of};
 ghost use Rattle.house_rows.specs.Text.{is_plain};
-ghost use Rattle.sqlite.specs.Files.{IsCleanLeft, image_of};
+ghost use Rattle.sqlite.specs.Files.{IsCleanLeft, LeavesFiles, image_of};
 ghost use Rattle.sqlite_wal.specs.Reads.{AreClean};
 ghost use Rattle.store_house.specs.Opening.{IsSoundHouse};
 ghost use Rattle.store.specs.Kept.{IsHonest, MayLeave, content, is_failed};
 ghost use Rattle.store.specs.InOrder.{order_state, over_order};
-ghost use Rattle.store_files.specs.InOrder.{FindsNoTable, HoldsNoTable, LeavesFilesNew};
+ghost use Rattle.store_files.specs.InOrder.{FindsNoTable, HoldsNoTable, HoldsObject, LeavesFilesNew};
 
 use crate::openings::connect;
 use house_rows::{KeepFault, Settings};
@@ -23,7 +23,8 @@ use tree_order::Renumbered;
 /// hold no table.
 ///
 /// `Damaged` where they hold one, or hold no database, or the zone has control characters. After an
-/// error what is left of the files is given back: they hold what they held, or the new house.
+/// error what is left of the files is given back: they hold what they held, or the new house. Where
+/// they held a table, they hold what they held.
 pub fn create_files<D: Disk + Drop>(
     alloc: Global,
     files: Files<D>,
@@ -44,6 +45,8 @@ pub fn create_files<D: Disk + Drop>(
         → MayLeave over_order k tables → tables ≡ content over_order k) }
     ensures works { IfOk result (λ k. is_failed k ≡ false) }
     ensures left { IfErr result (λ e. IsCleanLeft e.1 → LeavesFilesNew settings.now files e.1) }
+    ensures spared { IfErr result (λ e. HoldsObject (image_of D.Disk files) → IsCleanLeft e.1
+        → LeavesFiles files e.1) }
 {
     let mut conn = connect(alloc, files, options)?;
     match make_house(&mut conn, settings) {

@@ -1,10 +1,12 @@
-use Rattle.std.proofs.Common.{◌∙◌, ap, arith}
+use Rattle.std.proofs.Common.{◌∙◌, ap, arith, inr, subst}
+use Rattle.std.proofs.lemmas.Result.{err_from_is_err_and}
 use Rattle.sqlite.specs.Files.{file_state}
 use Rattle.sqlite.specs.State.{HasCleanDisk}
+use Rattle.sqlite_trees.proofs.Doubt.{no_doubt}
 use Rattle.store_rows.specs.Tables.{tables_in}
 use Rattle.store.specs.InOrder.{order_state}
 use Rattle.store_files.proofs.Made.{leaves_made, leaves_new, opens_new, shows_new}
-use Rattle.store_files.proofs.Opened.{finds_no_table, holds_no_table}
+use Rattle.store_files.proofs.Opened.{finds_no_table, holds_no_table, leaves_found, lists_object}
 use Rattle.store_files.proofs.creations.create_files.Goals as goal
 
 pub returns-in-Ok-open_house-clause-blank : goal.returns-in-Ok-open_house-clause-blank
@@ -55,3 +57,30 @@ returns-in-Err-clause-left g c =
     c.into_store.result conn.ensures.opened conn.ensures.found
     (λ sure. omega (arith, quiet.clean, crash.clean, sure))
     (λ sure db may. crash.crash (omega (arith, quiet.clean, sure)) db (quiet.outcomes db may))
+
+-- where they held a table, it leaves what they held
+
+pub returns-in_err-conn-clause-spared : goal.returns-in_err-conn-clause-spared
+returns-in_err-conn-clause-spared g c =
+    let p = err_from_is_err_and c.from_residual.result c.from_residual.ensures.1 in
+    rw (p.1, p.2) (λ held clean. c.in_err-conn.ensures.left clean)
+
+pub returns-in-Err-open_house-clause-spared : goal.returns-in-Err-open_house-clause-spared
+returns-in-Err-open_house-clause-spared g c = rw (c.into_inner.ensures) (λ held clean.
+    let conn = c.in_ok-conn in
+    let last = no_doubt _ clean in
+    let sure : HasCleanDisk (file_state conn.conn) = omega (arith, c.in-Err-open_house.ensures.left.clean, c.make_house.ensures.crash.clean, last) in
+    absurd (lists_object g.D.Disk c.args.files g.met.D.Disk.seen_may_stay conn.conn (conn.ensures.opened sure) (conn.ensures.found sure) held c.in-Ok.ensures.blank.1))
+
+pub returns-in-Err-clause-spared : goal.returns-in-Err-clause-spared
+returns-in-Err-clause-spared g c held clean =
+    let conn = c.in_ok-conn in
+    let quiet = c.into_store.ensures.quiet in
+    let last = no_doubt _ clean in
+    let sure : HasCleanDisk (file_state conn.conn) = omega (arith, quiet.clean, c.make_house.ensures.crash.clean, last) in
+    let opened = conn.ensures.opened sure in
+    let finds = conn.ensures.found sure in
+    let lists = lists_object g.D.Disk c.args.files g.met.D.Disk.seen_may_stay conn.conn opened finds held in
+    let same = c.in-Err.ensures.same (c.in-Err.ensures.damaged.1 (inr lists)) in
+    leaves_found g.D.Disk c.args.files g.met.D.Disk.seen_may_stay conn.conn opened finds c.into_store.result
+    (λ db may. subst (λ h. (file_state h).may_leave db) same (quiet.outcomes db may))
