@@ -27,9 +27,9 @@ use Rattle.tree_order.specs.declared.renumbered.Renumbered.{Renumbered}
 use Rattle.store_rows.specs.House.{IsHouse}
 use Rattle.store_rows.specs.Tables.{tables_in}
 use Rattle.store_house.proofs.ArrangedLemmas.{found_in_order}
-use Rattle.store_house.specs.Named.{FollowsInOrder, IsArranged, IsReordered}
+use Rattle.store_house.specs.Named.{FollowsInOrder, HoldsSound, IsArranged, IsReordered}
 use Rattle.store_house.specs.Opening.{IsSoundHouse}
-use Rattle.store_making.proofs.HeldLemmas.{holds_house}
+use Rattle.store_making.proofs.HeldLemmas.{holds_house, holds_sound}
 use Rattle.store_making.proofs.MadeHouses.{shown_sound, shown_tables}
 use Rattle.store_making.specs.Made.{IsMadeHouse, MadeHouse}
 use Rattle.store_files.proofs.Opened.{found_at, order_below}
@@ -77,6 +77,12 @@ module _ {D : Type 0} (g : disk.Ghosts D) (given : Files D) (stays : SeenMayStay
 
   pub opens_new : Makes → (shown : Database) → IsHouse shown → IsArranged (file_state made).committed.trees shown.trees → is_plain settings.zone ≡ true → IsSoundHouse shown
   opens_new ok shown house arranged plain = shown_sound settings (file_state made).now shown ok.1 (now_shaped ok) (now_order ok shown.trees arranged) house plain
+
+  -- what is committed is a house that an opening takes, if the zone has no control characters
+  pub holds_new : Makes → is_plain settings.zone ≡ true → HoldsSound (file_state made).committed.trees
+  holds_new ok plain =
+      subst (λ (d : Database). HoldsSound d.trees) ok.2
+      (holds_sound settings (file_state made).now ok.1 (now_shaped ok) plain)
 
   -- a store over files in which a house was made holds that house, in some order
   pub leaves_new : (store : Renumbered (FileStore D g)) → FollowsInOrder over_files made store → (HasCleanDisk (file_state made) → Makes)

@@ -38,7 +38,7 @@ use Rattle.store.specs.InOrder.{order_state, over_order}
 use Rattle.store.specs.Kept.{House, MayLeave, content}
 use Rattle.store_files.proofs.Crashed.{found_left, found_same, recovered}
 use Rattle.store_files.proofs.Orders.{reordered_back, reordered_then}
-use Rattle.store_files.specs.InOrder.{FindsHeld, FindsHouse, FindsLeft, FindsNoTable, HasTrees, HoldsNoDatabase, HoldsNoTable, HoldsSoundFirstHouse, HoldsSoundHouse, HoldsObject, IsCrashed, IsFound, LeavesFilesInOrder, MayShow}
+use Rattle.store_files.specs.InOrder.{FindsHeld, FindsHouse, FindsLeft, FindsNoTable, FindsObject, HasTrees, HoldsNoTable, HoldsObject, HoldsOther, HoldsSoundFirstHouse, HoldsSoundHouse, IsCrashed, IsFound, LeavesFilesInOrder, MayShow}
 
 -- ---- a house by its names
 
@@ -71,13 +71,13 @@ order_below store found = reordered_back found (shown_trees store.numbers found)
 
 -- ---- over two files
 
--- files that are refused hold no database, or the disk failed
+-- files that are refused hold neither a database nor nothing, or the disk failed
 pub refused : {D : Type 0} (g : disk.Ghosts D) (given : Files D) (left : Leftover D g) (e : Error)
     → (e ≡ SqliteFailure NotADatabase) ⊎ (e ≡ SqliteFailure DatabaseCorrupt) → FailsToOpenFiles given left e
-    → HoldsNoDatabase (image_of g given) ⊎ MoreFaults (faults_of g given) (faults_left left)
+    → HoldsOther (image_of g given) ⊎ MoreFaults (faults_of g given) (faults_left left)
 refused g given left e (inl is) (inl memory) = absurd (let x = sym is ∙ memory in cc)
 refused g given left e (inr is) (inl memory) = absurd (let x = sym is ∙ memory in cc)
-refused g given left e is (inr (inl none)) = inl (λ db held. none.1 (inl (db, held)))
+refused g given left e is (inr (inl none)) = inl (λ db held. none.1 (inl (db, held)), λ nothing. none.1 (inr nothing))
 refused g given left e is (inr (inr (inl fault))) = inr fault.1
 refused g given left e (inl is) (inr (inr (inr full))) = absurd (let x = sym is ∙ full.0 in cc)
 refused g given left e (inr is) (inr (inr (inr full))) = absurd (let x = sym is ∙ full.0 in cc)
@@ -166,4 +166,13 @@ module _ {D : Type 0} (g : disk.Ghosts D) (given : Files D) (stays : SeenMayStay
     (opened.1 opened.0.is_open).1,
     finds.reads,
     ap (λ (d : Database). d.schema) (sym opened.0.clean) ∙ none,
+  )
+
+  -- or one that lists some
+  pub finds_object : IsOpened conn → Finds given conn → (file_state conn).now.schema ≢ no_schema → FindsObject (image_of g given)
+  finds_object opened finds some = (
+    (file_state conn).committed,
+    (opened.1 opened.0.is_open).1,
+    finds.reads,
+    λ none. some (ap (λ (d : Database). d.schema) opened.0.clean ∙ none),
   )

@@ -9,7 +9,7 @@ use Rattle.sqlite_trees.specs.Tree.{Trees}
 use Rattle.sqlite_store.specs.FileStore.{files, recovers, view}
 use Rattle.sqlite_store.specs.declared.store.FileStore.{FileStore}
 use Rattle.sqlite.specs.Effect.{Database, IsDatabase}
-use Rattle.sqlite.specs.Files.{AreFound, AreFoundIn, HoldsDatabase, LeavesFiles, image_of}
+use Rattle.sqlite.specs.Files.{AreFound, AreFoundIn, HoldsDatabase, IsNothing, LeavesFiles, image_of}
 use Rattle.sqlite.specs.declared.file.Leftover.{Leftover}
 use Rattle.sqlite.specs.declared.file.Leftover.TheVariants as left
 use Rattle.house_rows.specs.Tables.{Tables, tables_of}
@@ -35,6 +35,10 @@ HoldsSoundFirstHouse image = (below : Trees) × HoldsDatabase image below × Hol
 -- no database
 abbrev pub HoldsNoDatabase : Image → Type 0
 HoldsNoDatabase image = (db : Trees) → ¬ (HoldsDatabase image db)
+
+-- neither a database nor nothing, which an opening makes an empty one
+abbrev pub HoldsOther : Image → Type 0
+HoldsOther image = HoldsNoDatabase image × (¬ (IsNothing image))
 
 -- these tables of a house, by their names
 pub record HoldsTables (image : Image) (t : Tables) : Type 0 where
@@ -80,6 +84,11 @@ pub record FindsHouse (image : Image) (t : Tables) : Type 0 where
 abbrev pub FindsNoTable : Image → Type 0
 FindsNoTable image = (db : Database) × IsDatabase db × AreFoundIn image db.trees
     × (db.schema ≡ no_schema)
+
+-- What it finds in this is a database that lists a table, an index or a view.
+abbrev pub FindsObject : Image → Type 0
+FindsObject image = (db : Database) × IsDatabase db × AreFoundIn image db.trees
+    × (db.schema ≢ no_schema)
 
 -- What it finds in this is a house of version 1, of which this one was made, or it is this one.
 pub record FindsUpgraded (image : Image) (was_first : Bool) (now : Database) : Type 0 where

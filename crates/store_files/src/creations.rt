@@ -1,13 +1,16 @@
 //! A house is made in two files.
-ghost use Rattle.std.specs.Prelude.{◌≡◌, [], false, true, IfErr, IfOk};
+ghost use Rattle.std.specs.Prelude.{◌≡◌, ◌⊎◌, [], false, true, IfErr, IfOk};
 ghost use Rattle.house_rows.specs.Tables.{Tables, tables_of};
 ghost use Rattle.house_rows.specs.Text.{is_plain};
-ghost use Rattle.sqlite.specs.Files.{IsCleanLeft, LeavesFiles, image_of};
+ghost use Rattle.house_rows.specs.declared.fault.KeepFault.TheVariants.{Damaged};
+ghost use Rattle.sqlite.specs.Files.{IsCleanLeft, LeavesFiles, faults_left, faults_of, image_of};
+ghost use Rattle.sqlite_disk.specs.Disk.{MoreFaults};
 ghost use Rattle.sqlite_wal.specs.Reads.{AreClean};
 ghost use Rattle.store_house.specs.Opening.{IsSoundHouse};
 ghost use Rattle.store.specs.Kept.{IsHonest, MayLeave, content, is_failed};
 ghost use Rattle.store.specs.InOrder.{order_state, over_order};
-ghost use Rattle.store_files.specs.InOrder.{FindsNoTable, HoldsNoTable, HoldsObject, LeavesFilesNew};
+ghost use Rattle.store_files.specs.InOrder.{FindsNoTable, FindsObject, HoldsNoTable, HoldsOther};
+ghost use Rattle.store_files.specs.InOrder.{HoldsObject, LeavesFilesNew};
 
 use crate::openings::connect;
 use house_rows::{KeepFault, Settings};
@@ -22,9 +25,9 @@ use tree_order::Renumbered;
 /// Makes the keep of a house to which nothing has happened yet in a log and a database file that
 /// hold no table.
 ///
-/// `Damaged` where they hold one, or hold no database, or the zone has control characters. After an
-/// error what is left of the files is given back: they hold what they held, or the new house. Where
-/// they held a table, they hold what they held.
+/// `Damaged` where they hold one, or are neither empty nor a database, or the zone has control
+/// characters. After an error what is left of the files is given back: they hold what they held, or the
+/// new house. Where they held a table, they hold what they held.
 pub fn create_files<D: Disk + Drop>(
     alloc: Global,
     files: Files<D>,
@@ -47,6 +50,10 @@ pub fn create_files<D: Disk + Drop>(
     ensures left { IfErr result (λ e. IsCleanLeft e.1 → LeavesFilesNew settings.now files e.1) }
     ensures spared { IfErr result (λ e. HoldsObject (image_of D.Disk files) → IsCleanLeft e.1
         → LeavesFiles files e.1) }
+    ensures damaged { IfErr result (λ e. e.0 ≡ Damaged → IsCleanLeft e.1
+        → HoldsOther (image_of D.Disk files) ⊎ FindsObject (image_of D.Disk files)
+        ⊎ (¬ (is_plain settings.now.zone ≡ true))
+        ⊎ MoreFaults (faults_of D.Disk files) (faults_left e.1)) }
 {
     let mut conn = connect(alloc, files, options)?;
     match make_house(&mut conn, settings) {

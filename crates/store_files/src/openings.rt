@@ -17,7 +17,7 @@ ghost use Rattle.store_rows.specs.House.{IsHouse};
 ghost use Rattle.store_rows.specs.Tables.{house_row_in};
 ghost use Rattle.store.specs.Kept.{IsHonest, MayLeave, content, is_failed};
 ghost use Rattle.store.specs.InOrder.{order_state, over_order};
-ghost use Rattle.store_files.specs.InOrder.{FindsLeft, HoldsNoDatabase, HoldsSoundHouse};
+ghost use Rattle.store_files.specs.InOrder.{FindsLeft, HoldsOther, HoldsSoundHouse};
 ghost use Rattle.store_files.specs.InOrder.{IsCrashed, LeavesFilesInOrder};
 
 use house_rows::KeepFault;
@@ -52,7 +52,7 @@ pub(crate) fn connect<D: Disk + Drop>(
     ensures found { IfOk result (λ c. HasCleanDisk (file_state c) → Finds files c) }
     ensures left { IfErr result (λ e. IsCleanLeft e.1 → LeavesFiles files e.1) }
     ensures damaged { IfErr result (λ e. e.0 ≡ Damaged → IsCleanLeft e.1
-        → HoldsNoDatabase (image_of D.Disk files)
+        → HoldsOther (image_of D.Disk files)
         ⊎ MoreFaults (faults_of D.Disk files) (faults_left e.1)) }
 {
     if !files.may_be_used() {

@@ -1,12 +1,12 @@
-use Rattle.std.proofs.Common.{◌∙◌, ap, arith, inr, subst}
+use Rattle.std.proofs.Common.{◌∙◌, Err, ap, arith, inl, inr, subst, sym, true≢false}
 use Rattle.std.proofs.lemmas.Result.{err_from_is_err_and}
 use Rattle.sqlite.specs.Files.{file_state}
 use Rattle.sqlite.specs.State.{HasCleanDisk}
 use Rattle.sqlite_trees.proofs.Doubt.{no_doubt}
 use Rattle.store_rows.specs.Tables.{tables_in}
 use Rattle.store.specs.InOrder.{order_state}
-use Rattle.store_files.proofs.Made.{leaves_made, leaves_new, opens_new, shows_new}
-use Rattle.store_files.proofs.Opened.{finds_no_table, holds_no_table, leaves_found, lists_object}
+use Rattle.store_files.proofs.Made.{holds_new, leaves_made, leaves_new, opens_new, shows_new}
+use Rattle.store_files.proofs.Opened.{finds_no_table, finds_object, holds_no_table, leaves_found, lists_object}
 use Rattle.store_files.proofs.creations.create_files.Goals as goal
 
 pub returns-in-Ok-open_house-clause-blank : goal.returns-in-Ok-open_house-clause-blank
@@ -84,3 +84,33 @@ returns-in-Err-clause-spared g c held clean =
     let same = c.in-Err.ensures.same (c.in-Err.ensures.damaged.1 (inr lists)) in
     leaves_found g.D.Disk c.args.files g.met.D.Disk.seen_may_stay conn.conn opened finds c.into_store.result
     (λ db may. subst (λ h. (file_state h).may_leave db) same (quiet.outcomes db may))
+
+-- it is damaged where they are no place for a house, or the new house is none that an opening takes
+
+pub returns-in_err-conn-clause-damaged : goal.returns-in_err-conn-clause-damaged
+returns-in_err-conn-clause-damaged g c =
+    let p = err_from_is_err_and c.from_residual.result c.from_residual.ensures.1 in
+    rw (p.1, p.2) (λ is clean. elim (c.in_err-conn.ensures.damaged is clean) [
+      | inl other ↦ inl other
+      | inr fault ↦ inr (inr (inr fault))
+    ])
+
+pub returns-in-Err-open_house-clause-damaged : goal.returns-in-Err-open_house-clause-damaged
+returns-in-Err-open_house-clause-damaged g c = rw (c.into_inner.ensures) (λ is clean.
+    let refuses = c.in-Err-open_house.ensures in
+    let made = c.make_house.new.conn in
+    let last = no_doubt _ clean in
+    let mid : HasCleanDisk (file_state made) = omega (arith, refuses.left.clean, last) in
+    inr (inr (inl (λ plain. refuses.damaged is last
+    (holds_new g.D.Disk c.args.files g.met.D.Disk.seen_may_stay c.args.settings.now made (c.in-Ok.ensures.ok mid) plain)))))
+
+pub returns-in-Err-clause-damaged : goal.returns-in-Err-clause-damaged
+returns-in-Err-clause-damaged g c is clean =
+    let conn = c.in_ok-conn in
+    let last = no_doubt _ clean in
+    let sure : HasCleanDisk (file_state conn.conn) = omega (arith, c.into_store.ensures.quiet.clean, c.make_house.ensures.crash.clean, last) in
+    let opened = conn.ensures.opened sure in
+    elim (c.in-Err.ensures.damaged.0 (ap Err is)) [
+      | inl begun ↦ absurd (true≢false (sym begun ∙ opened.0.autocommit))
+      | inr lists ↦ inr (inl (finds_object g.D.Disk c.args.files g.met.D.Disk.seen_may_stay conn.conn opened (conn.ensures.found sure) lists))
+    ]

@@ -68,7 +68,7 @@ pub returns-in_err-conn-clause-damaged : goal.returns-in_err-conn-clause-damaged
 returns-in_err-conn-clause-damaged g c =
     let p = err_from_is_err_and c.from_residual.result c.from_residual.ensures.1 in
     rw (p.1, p.2) (λ is clean. elim (c.in_err-conn.ensures.damaged is clean) [
-      | inl none ↦ inl (λ held. none held.0 held.1)
+      | inl other ↦ inl (λ held. other.0 held.0 held.1)
       | inr fault ↦ inr fault
     ])
 
