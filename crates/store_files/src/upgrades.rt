@@ -1,7 +1,7 @@
 //! The house in two files is upgraded.
-ghost use Rattle.std.specs.Prelude.{◌≡◌, ◌⊎◌, false, true, IfErr, IfOk};
+ghost use Rattle.std.specs.Prelude.{◌≡◌, ◌≢◌, ◌⊎◌, false, true, IfErr, IfOk};
 ghost use Rattle.house_rows.specs.Tables.{Tables};
-ghost use Rattle.house_rows.specs.declared.fault.KeepFault.TheVariants.{Damaged};
+ghost use Rattle.house_rows.specs.declared.fault.KeepFault.TheVariants.{Damaged, Store};
 ghost use Rattle.sqlite.specs.Files.{HoldsDatabase, IsCleanLeft, faults_left, faults_of, image_of};
 ghost use Rattle.sqlite_disk.specs.Disk.{MoreFaults};
 ghost use Rattle.sqlite_trees.specs.Tree.{Trees};
@@ -11,7 +11,7 @@ ghost use Rattle.store.specs.Kept.{IsHonest, MayLeave, content, is_failed};
 ghost use Rattle.store_house.specs.Named.{IsArranged, UpgradesHeld};
 ghost use Rattle.store_rows.specs.House.{IsHouse};
 ghost use Rattle.store_files.specs.InOrder.{FindsUpgraded, HoldsSoundFirstHouse, HoldsSoundHouse};
-ghost use Rattle.store_files.specs.InOrder.{LeavesFilesUpgraded, tables_after};
+ghost use Rattle.store_files.specs.InOrder.{LeavesFilesInOrder, LeavesFilesUpgraded, tables_after};
 
 use crate::openings::connect;
 use house_rows::KeepFault;
@@ -27,7 +27,8 @@ use tree_order::Renumbered;
 /// changed: the keep shows what the files held, in the order of a house.
 ///
 /// `Damaged` where they hold no house of either version. After an error what is left of the files is
-/// given back: they hold what they held, or a crash may find the house upgraded in them.
+/// given back: they hold what they held, or, after `Store` alone, a crash may find the house upgraded in
+/// them.
 pub fn upgrade_files<D: Disk + Drop>(
     alloc: Global,
     files: Files<D>,
@@ -52,6 +53,8 @@ pub fn upgrade_files<D: Disk + Drop>(
         → MayLeave over_order r.0 tables → tables ≡ content over_order r.0) }
     ensures works { IfOk result (λ r. is_failed r.0 ≡ false) }
     ensures left { IfErr result (λ e. IsCleanLeft e.1 → LeavesFilesUpgraded files e.1) }
+    ensures unchanged { IfErr result (λ e. e.0 ≢ Store → IsCleanLeft e.1
+        → LeavesFilesInOrder files e.1) }
     ensures damaged { IfErr result (λ e. e.0 ≡ Damaged → IsCleanLeft e.1
         → ((¬ (HoldsSoundHouse (image_of D.Disk files)))
         × (¬ (HoldsSoundFirstHouse (image_of D.Disk files))))

@@ -6,7 +6,7 @@ use Rattle.sqlite_trees.proofs.Doubt.{no_doubt}
 use Rattle.store_rows.specs.Tables.{tables_in}
 use Rattle.store_house.specs.Named.{IsArranged, UpgradesHeld}
 use Rattle.store.specs.InOrder.{order_state}
-use Rattle.store_files.proofs.Opened.{holds_no_first, holds_none}
+use Rattle.store_files.proofs.Opened.{holds_no_first, holds_none, leaves_in_order}
 use Rattle.store_files.proofs.Upgraded.{leaves_upgraded, upgrade_finds}
 use Rattle.store_files.proofs.upgrades.upgrade_files.Goals as goal
 
@@ -73,6 +73,15 @@ returns-in_err-conn-clause-damaged g c =
 pub returns-in-Err-clause-left : goal.returns-in-Err-clause-left
 returns-in-Err-clause-left g c =
     rw (c.into_inner.ensures) (leaves_upgraded g.D.Disk c.args.files g.met.D.Disk.seen_may_stay c.in_ok-conn.conn c.in-Err.store c.in_ok-conn.ensures.opened c.in_ok-conn.ensures.found c.in-Err.ensures.grown)
+
+pub returns-in_err-conn-clause-unchanged : goal.returns-in_err-conn-clause-unchanged
+returns-in_err-conn-clause-unchanged g c =
+    let p = err_from_is_err_and c.from_residual.result c.from_residual.ensures.1 in
+    rw (p.1, p.2) (λ other clean. inl (c.in_err-conn.ensures.left clean))
+
+pub returns-in-Err-clause-unchanged : goal.returns-in-Err-clause-unchanged
+returns-in-Err-clause-unchanged g c =
+    rw (c.into_inner.ensures) (λ other. leaves_in_order g.D.Disk c.args.files g.met.D.Disk.seen_may_stay c.in_ok-conn.conn c.in-Err.store c.in_ok-conn.ensures.opened c.in_ok-conn.ensures.found (c.in-Err.ensures.left other))
 
 pub returns-in-Err-clause-damaged : goal.returns-in-Err-clause-damaged
 returns-in-Err-clause-damaged g c = rw (c.into_inner.ensures) (λ is clean.
