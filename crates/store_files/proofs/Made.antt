@@ -78,6 +78,10 @@ module _ {D : Type 0} (g : disk.Ghosts D) (given : Files D) (stays : SeenMayStay
   pub opens_new : Makes → (shown : Database) → IsHouse shown → IsArranged (file_state made).committed.trees shown.trees → is_plain settings.zone ≡ true → IsSoundHouse shown
   opens_new ok shown house arranged plain = shown_sound settings (file_state made).now shown ok.1 (now_shaped ok) (now_order ok shown.trees arranged) house plain
 
+  -- what is committed is a new house
+  pub made_new : Makes → IsMadeHouse settings (file_state made).committed
+  made_new ok = subst (IsMadeHouse settings) ok.2 ok.1
+
   -- what is committed is a house that an opening takes, if the zone has no control characters
   pub holds_new : Makes → is_plain settings.zone ≡ true → HoldsSound (file_state made).committed.trees
   holds_new ok plain =

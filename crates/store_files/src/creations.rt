@@ -3,10 +3,13 @@ ghost use Rattle.std.specs.Prelude.{◌≡◌, ◌⊎◌, [], false, true, IfErr
 ghost use Rattle.house_rows.specs.Tables.{Tables, tables_of};
 ghost use Rattle.house_rows.specs.Text.{is_plain};
 ghost use Rattle.house_rows.specs.declared.fault.KeepFault.TheVariants.{Damaged};
+ghost use Rattle.sqlite.specs.Effect.{Database};
 ghost use Rattle.sqlite.specs.Files.{IsCleanLeft, LeavesFiles, faults_left, faults_of, image_of};
 ghost use Rattle.sqlite_disk.specs.Disk.{MoreFaults};
 ghost use Rattle.sqlite_wal.specs.Reads.{AreClean};
+ghost use Rattle.store_house.specs.Named.{IsArranged};
 ghost use Rattle.store_house.specs.Opening.{IsSoundHouse};
+ghost use Rattle.store_making.specs.Made.{IsMadeHouse};
 ghost use Rattle.store.specs.Kept.{IsHonest, MayLeave, content, is_failed};
 ghost use Rattle.store.specs.InOrder.{order_state, over_order};
 ghost use Rattle.store_files.specs.InOrder.{FindsNoTable, FindsObject, HoldsNoTable, HoldsOther};
@@ -42,6 +45,8 @@ pub fn create_files<D: Disk + Drop>(
         → FindsNoTable (image_of D.Disk files)) }
     ensures empty { IfOk result (λ k. IsHonest over_order k
         → content over_order k ≡ tables_of settings.now []) }
+    ensures made { IfOk result (λ k. IsHonest over_order k → (made : Database)
+        × IsMadeHouse settings.now made × IsArranged made.trees (order_state k.conn).now.trees) }
     ensures opens { IfOk result (λ k. IsHonest over_order k → is_plain settings.now.zone ≡ true
         → IsSoundHouse (order_state k.conn).now) }
     ensures only { IfOk result (λ k. IsHonest over_order k → (tables : Tables)

@@ -5,7 +5,7 @@ use Rattle.sqlite.specs.State.{HasCleanDisk}
 use Rattle.sqlite_trees.proofs.Doubt.{no_doubt}
 use Rattle.store_rows.specs.Tables.{tables_in}
 use Rattle.store.specs.InOrder.{order_state}
-use Rattle.store_files.proofs.Made.{holds_new, leaves_made, leaves_new, opens_new, shows_new}
+use Rattle.store_files.proofs.Made.{holds_new, leaves_made, leaves_new, made_new, opens_new, shows_new}
 use Rattle.store_files.proofs.Opened.{finds_no_table, finds_object, holds_no_table, leaves_found, lists_object}
 use Rattle.store_files.proofs.creations.create_files.Goals as goal
 
@@ -28,6 +28,14 @@ returns-in-Ok-open_house-clause-empty g c = rw (c.of_house.ensures.conn) (λ hon
     let mid : HasCleanDisk (file_state made) = omega (arith, house.ensures.follows.clean, honest) in
     shows_new g.D.Disk c.args.files g.met.D.Disk.seen_may_stay c.args.settings.now made (c.in-Ok.ensures.ok mid)
     (order_state house.house.conn).now (house.ensures.opened.rests honest).house (house.ensures.arranged honest))
+
+pub returns-in-Ok-open_house-clause-made : goal.returns-in-Ok-open_house-clause-made
+returns-in-Ok-open_house-clause-made g c = rw (c.of_house.ensures.conn) (λ honest.
+    let made = c.make_house.new.conn in
+    let house = c.in-Ok-open_house in
+    let mid : HasCleanDisk (file_state made) = omega (arith, house.ensures.follows.clean, honest) in
+    let is = made_new g.D.Disk c.args.files g.met.D.Disk.seen_may_stay c.args.settings.now made (c.in-Ok.ensures.ok mid) in
+    ((file_state made).committed, is, house.ensures.arranged honest))
 
 pub returns-in-Ok-open_house-clause-opens : goal.returns-in-Ok-open_house-clause-opens
 returns-in-Ok-open_house-clause-opens g c = rw (c.of_house.ensures.conn) (λ honest plain.
