@@ -144,6 +144,14 @@ pub run_finds : {D : Type 0} {g : Ghosts D} (zone : Zone) (image left : Image) (
 run_finds zone image left run was = was.is_opened.there refl
     (opened_honest zone run was.opened was.last was.done was.ended.honest)
 
+-- and so did one whose keep could not be ended
+pub unended_finds : {D : Type 0} {g : Ghosts D} (zone : Zone) (image : Image) (run : Run)
+    (files : Files D) → (was : IsUnended g zone image run files) → (db : Trees)
+    → MayFind was.last files was.ended db → FindsHouse image (content over_order was.opened)
+unended_finds zone image run files was db may = was.is_opened.there refl
+    (opened_honest zone run was.opened was.last was.done
+    (omega (arith, was.ended.closed.clean, may.honest)))
+
 -- a run leaves a life
 pub leaves : {D : Type 0} {g : Ghosts D} (settings : Settings) (zone : Zone) (h : History)
     (image left : Image) (run : Run) → IsHistory settings h → HoldHistory settings h image

@@ -51,10 +51,15 @@ use tcp::Listen;
 
 /// A run is over files that hold a house: where its disk was honest, the tables with which its keep was
 /// opened are those of a house that is found in them. So over an empty file, or over one that is no
-/// database, there is none.
+/// database, there is none. So it is of a run whose keep could not be ended, where an opening after a
+/// crash may find anything in the store that is left.
 pub fn runs_find_houses<D: Disk>()
-    ensures { (zone : Zone) (image left : Image) (run : Run)
+    ensures ended { (zone : Zone) (image left : Image) (run : Run)
         → (was : IsRun D.Disk zone image run left)
+        → FindsHouse image (content over_order was.opened) }
+    ensures unended { (zone : Zone) (image : Image) (run : Run) (files : Files D)
+        → (was : IsUnended D.Disk zone image run files) → (db : Trees)
+        → MayFind was.last files was.ended db
         → FindsHouse image (content over_order was.opened) }
 {}
 
