@@ -45,7 +45,7 @@ pub trait KeepInFile: Sized + Keep + Drop + Ends {
     /// What is so of what is left of a file at a path that holds what it held.
     ghost is_held: { List ℕ → Self.Rest → Type 0 };
 
-    /// The same, or it holds a new house.
+    /// The same, or it holds a new house where it held no table.
     ghost is_made: { List ℕ → TheSettings → Self.Rest → Type 0 };
 
     /// The same, or it holds its house upgraded.

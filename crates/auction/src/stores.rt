@@ -1,12 +1,12 @@
 //! Stores in files, and the keeps over them.
 ghost use Rattle.std.specs.Prelude.{◌≡◌, ℕ, List, Bool, IfErr, IfOk, IfSome};
 ghost use Rattle.house_rows.specs.declared.settings.Settings.{Settings as TheSettings};
-ghost use Rattle.sqlite.specs.Files.{IsCleanLeft};
+ghost use Rattle.sqlite.specs.Files.{IsCleanLeft, LeavesFiles, image_of};
 ghost use Rattle.sqlite_wal.specs.Files.{image_at};
 ghost use Rattle.store.specs.InOrder.{over_order};
 ghost use Rattle.store.specs.Kept.{House, IsHonest, MayLeave, content, is_failed};
-ghost use Rattle.store_files.specs.InOrder.{LeavesFilesInOrder, LeavesFilesNew, LeavesFilesUpgraded};
-ghost use Rattle.store_files.specs.InOrder.{shown_house};
+ghost use Rattle.store_files.specs.InOrder.{HoldsObject, LeavesFilesInOrder, LeavesFilesNew};
+ghost use Rattle.store_files.specs.InOrder.{LeavesFilesUpgraded, shown_house};
 ghost use Rattle.store_files.specs.Opened.{IsMade, IsOpened, IsUpgraded};
 ghost use Rattle.tree_order.specs.declared.renumbered.Renumbered.{Renumbered as TheRenumbered};
 
@@ -40,7 +40,7 @@ pub trait StoreInFile: Sized + Alter + Drop {
     /// What is so of what is left of a file at a path that holds what it held.
     ghost is_held: { List ℕ → Self.Rest → Type 0 };
 
-    /// The same, or it holds a new house.
+    /// The same, or it holds a new house where it held no table.
     ghost is_made: { List ℕ → TheSettings → Self.Rest → Type 0 };
 
     /// The same, or it holds its house upgraded.
@@ -100,7 +100,7 @@ pub trait StoreBelow: Sized + Alter + Drop {
     /// What is so of what is left of a file at a path that holds what it held.
     ghost is_held: { List ℕ → Self.Rest → Type 0 };
 
-    /// The same, or it holds a new house.
+    /// The same, or it holds a new house where it held no table.
     ghost is_made: { List ℕ → TheSettings → Self.Rest → Type 0 };
 
     /// The same, or it holds its house upgraded.
@@ -211,7 +211,8 @@ impl<D: DiskInFile> StoreBelow for FileStore<D> {
         × (IsCleanLeft rest → LeavesFilesInOrder files rest) };
 
     ghost is_made = { λ path settings rest. path ≡ D.First.name → (files : _)
-        × D.are_fresh files × (IsCleanLeft rest → LeavesFilesNew settings files rest) };
+        × D.are_fresh files × (IsCleanLeft rest → LeavesFilesNew settings files rest)
+        × (HoldsObject (image_of D.Disk files) → IsCleanLeft rest → LeavesFiles files rest) };
 
     ghost is_grown = { λ path rest. path ≡ D.First.name → (files : _) × D.are_fresh files
         × (IsCleanLeft rest → LeavesFilesUpgraded files rest) };

@@ -9,4 +9,4 @@ returns-in-Ok-create_files-clause-made g c =
 
 pub returns-in-Err-create_files-clause-left : goal.returns-in-Err-create_files-clause-left
 returns-in-Err-create_files-clause-left g c = λ at.
-    (c.in-Ok-make_files.files, c.in-Ok-make_files.ensures.fresh at, c.in-Err-create_files.ensures.left)
+    (c.in-Ok-make_files.files, c.in-Ok-make_files.ensures.fresh at, c.in-Err-create_files.ensures.left, c.in-Err-create_files.ensures.spared)
