@@ -130,11 +130,24 @@ def pages(programs, items, stream, record):
             shown_rounds(f"{items} items: text of {name}", {"ours": ours, "plain": plain}, unit)
 
 
+def with_record(program, stream):
+    """A run without the record, and one with it."""
+    return More(([program, *WORDS], stream), ([program, *WORDS, "--record"], stream), 1)
+
+
+def record_by_plain(record):
+    """The same of plain Rust, which makes and writes it once, as ours does."""
+    return More(([PAGES, "record", 0], record), ([PAGES, "record", 1], record), 1)
+
+
+def record_of(program, stream):
+    """The public record of the house that a stream makes."""
+    return output(program, stream, "--record")[len(output(program, stream)):-1]
+
+
 def records(program, items, stream, record):
-    # Made and written once, as ours is.
-    plain = More(([PAGES, "record", 0], record), ([PAGES, "record", 1], record), 1)
-    same(seconds(*plain.many)[1], record)
-    runs = {"ours": More(([program, *WORDS], stream), ([program, *WORDS, "--record"], stream), 1), "plain": plain}
+    runs = {"ours": with_record(program, stream), "plain": record_by_plain(record)}
+    same(seconds(*runs["plain"].many)[1], record)
     costs = instructions(runs)
     shown_rounds(f"{items} items: record", costs, "instructions")
     shown(f"of {len(record):,} bytes, a byte", {name: cost / len(record) for name, [cost] in costs.items()}, "instructions", 1)
@@ -145,16 +158,20 @@ def records(program, items, stream, record):
 
 def measured(programs, items):
     stream = made(items)
-    answered, whole = output(programs["ours"], stream), output(programs["ours"], stream, "--record")
-    if answered.count(b"HTTP/1.1 201 ") != stream.count(b" HTTP/1.1\r\n"):
+    if output(programs["ours"], stream).count(b"HTTP/1.1 201 ") != stream.count(b" HTTP/1.1\r\n"):
         sys.exit("pages.py: a house is not made")
-    record = whole[len(answered):-1]
+    record = record_of(programs["ours"], stream)
     pages(programs, items, stream, record)
     records(programs["ours"], items, stream, record)
 
 
-def main(program, *plain):
+def built():
+    """Builds what makes the texts in plain Rust."""
     subprocess.run(["cargo", "build", "--release", "--offline", "--quiet"], cwd=PLAIN, check=True)
+
+
+def main(program, *plain):
+    built()
     programs = {name: str(pathlib.Path(path).resolve()) for name, path in zip(("ours", "plain"), (program, *plain))}
     for items in SIZES:
         measured(programs, items)

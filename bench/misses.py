@@ -1,0 +1,75 @@
+"""How often a message waits for memory, beside plain Rust: `misses.py PROGRAM PLAIN`.
+
+By instructions ours is further ahead than by time, since an instruction that waits for memory takes as long as a hundred others.
+`cachegrind` plays the processor's caches, and counts what isn't found in the first of them and in the last: so much more by a run
+that does something so often than by one that does it never. Done are a message of the mixed stream of `workload.py`, a list of
+fifty out of 100,000 items, and the text of a list and the public record, as `pages.py` makes them. PLAIN is the house in plain
+Rust; beside the last two stands `bench/plain`, which makes the same text from rows that it has in memory. The counts hold for any
+machine whose caches are as large. It needs `valgrind`, and `cargo` with Debian's packages, as `wire.sh` says.
+"""
+import pathlib
+import re
+import subprocess
+import sys
+import tempfile
+
+import pages
+import workload
+from measured import kept, shown
+
+WORDS = ["replay", "--preset"]
+LARGE, SMALL = 100_000, 1_000
+MESSAGES, LISTS = 10_000, 1_000
+# The events of cachegrind that make up what isn't found in a cache: reads and writes.
+CACHES = {"the first cache": ("D1mr", "D1mw"), "the last cache": ("DLmr", "DLmw")}
+
+
+def events(words, stream):
+    """What cachegrind counts of a run, by the name of the event."""
+    with tempfile.TemporaryDirectory() as folder:
+        dump = pathlib.Path(folder, "dump")
+        subprocess.run(["valgrind", "--tool=cachegrind", "--cache-sim=yes", f"--cachegrind-out-file={dump}", *map(str, words)],
+                       input=stream, stdout=subprocess.DEVNULL, stderr=subprocess.DEVNULL, check=True)
+        names, counts = (re.search(rf"^{line}: (.*)$", dump.read_text(), re.M)[1].split() for line in ("events", "summary"))
+        return dict(zip(names, map(int, counts)))
+
+
+def mixed(program):
+    before, messages = workload.made("mixed", MESSAGES)
+    words = [program, *WORDS]
+    return pages.More((words, b"".join(before)), (words, b"".join(before + messages)), MESSAGES)
+
+
+def text_of_list(program, stream):
+    """Lists beside as many empty ones."""
+    kinds = pages.kinds(SMALL)
+    few, many = (([program, *WORDS], stream + kinds[name].request.text() * LISTS) for name in ("empty list", "list of fifty"))
+    return pages.More(few, many, LISTS)
+
+
+def runs(ours, plain):
+    """By name, for each program a run that does something, beside one that doesn't."""
+    yield "a message of the mixed stream", {whose: mixed(program) for whose, program in (("ours", ours), ("plain", plain))}
+    large, small = pages.made(LARGE), pages.made(SMALL)
+    kind = pages.kinds(LARGE)["list of fifty"]
+    yield f"a list out of {LARGE} items", {
+        whose: pages.asked(program, large, kind, LISTS) for whose, program in (("ours", ours), ("plain", plain))}
+    words = pages.kinds(SMALL)["list of fifty"].words
+    yield "the text of a list", {
+        "ours": text_of_list(ours, small), "plain": pages.by_plain(words, pages.record_of(ours, small), LISTS)}
+    yield f"the record of {LARGE} items", {
+        "ours": pages.with_record(ours, large), "plain": pages.record_by_plain(pages.record_of(ours, large))}
+
+
+def main(program, plain):
+    pages.built()
+    with kept("misses", "bench/misses.py"):
+        for name, both in runs(*(str(pathlib.Path(path).resolve()) for path in (program, plain))):
+            found = {whose: (events(*run.few), events(*run.many), run.count) for whose, run in both.items()}
+            for cache, kinds in CACHES.items():
+                shown(f"{name}, {cache}", {whose: sum(many[kind] - few[kind] for kind in kinds) / count
+                                           for whose, (few, many, count) in found.items()}, "misses", 1)
+
+
+if __name__ == "__main__":
+    main(*sys.argv[1:])
