@@ -35,14 +35,15 @@ WHYS = {"the tactics met a limit": "a limit", UNCHANGED: "the unchanged call isn
         OUT_OF_TIME: "no end"}
 HEAD = """# Planted bodies
 
-Made by `tests/kit/plant.py` of what `rt plant` said, by {kit}. It puts wrong bodies under the
-public functions of a crate, and has the tactics try to prove each: some give up, others call the
-real function and change an argument, the result or a field. Refused are those of which a clause was
-not proved. A body that was proved meets the contract, so a clause is missing, unless the body is
-right, or no clause can speak: those are listed below the table. Of one that is the same, the
-contract shows that it answers as the real function does. One isn't judged where only what a callee
-asks for was not proved, where the tactics met a limit, or where the unchanged call isn't proved.
-Only crates that were run on today's text stand here.
+Made by `tests/kit/plant.py` of what `rt plant` said, with {kit}.
+
+`rt plant` puts wrong bodies under the public functions of a crate, and has the tactics try to prove
+each: some give up, others call the real function and change an argument, the result or a field.
+Refused are those of which a clause was not proved. A body that was proved meets the contract, so a
+clause is missing, unless the body is right, or no clause can speak: those are listed below the
+table. Of one that is the same, the contract shows that it answers as the real function does. One
+isn't judged where only what a callee asks for was not proved, where the tactics met a limit, or
+where the unchanged call isn't proved. Only crates that were run on today's text stand here.
 
 | Crate | Functions | Tried | Refused | Proved | Same | Not judged | Why not |
 |---|---|---|---|---|---|---|---|
