@@ -1,11 +1,11 @@
 """How often a message waits for memory, beside plain Rust: `misses.py PROGRAM PLAIN`.
 
-By instructions ours is further ahead than by time, since an instruction that waits for memory takes as long as a hundred others.
-`cachegrind` plays the processor's caches, and counts what isn't found in the first of them and in the last: so much more by a run
-that does something so often than by one that does it never. Done are a message of the mixed stream of `workload.py`, a list of
-fifty out of 100,000 items, and the text of a list and the public record, as `pages.py` makes them. PLAIN is the house in plain
-Rust; beside the last two stands `bench/plain`, which makes the same text from rows that it has in memory. The counts hold for any
-machine whose caches are as large. It needs `valgrind`, and `cargo` with Debian's packages, as `wire.sh` says.
+A count of instructions leaves out which of them wait for memory. `cachegrind` plays the processor's caches, and counts what isn't
+found in the first of them and in the last: so much more by a run that does something so often than by one that does it never.
+Done are a message of the mixed stream of `workload.py`, a list of fifty out of 100,000 items, and the text of a list and the
+public record, as `pages.py` makes them. PLAIN is the house in plain Rust; beside the last two stands `bench/plain`, which makes
+the same text from rows that it has in memory. The counts hold for machines whose caches are as large, and differ little from run
+to run. It needs `valgrind`, and `cargo` with Debian's packages, as `wire.sh` says.
 """
 import pathlib
 import re
