@@ -1,6 +1,10 @@
 -- How many connections are still to come to a listener.
-use Rattle.std.specs.Prelude.{◌≡◌, ◌≢◌, ◌-◌, None, Result, OnErr, OnOk}
+use Rattle.std.specs.Prelude.{◌≡◌, ◌≢◌, ◌-◌, ℕ, None, Result, OnErr, OnOk, true, is_some}
 use Rattle.tcp.specs.declared.listener.Listener.{Listener}
+
+-- so many are to come, to a port that is open
+abbrev pub IsListening : Listener → ℕ → Type 0
+IsListening listener count = (listener.left ≡ count) × (is_some listener.listener ≡ true)
 
 -- one fewer is to come, and the port is given up with the last of them
 abbrev pub IsOneFewer : Listener → Listener → Type 0

@@ -1,6 +1,6 @@
 //! The connections of a listener.
-ghost use Rattle.std.specs.Prelude.{◌≡◌, ℕ, IfOk};
-ghost use Rattle.tcp.specs.Coming.{Accepts, IsAsOpen};
+ghost use Rattle.std.specs.Prelude.{ℕ, IfOk};
+ghost use Rattle.tcp.specs.Coming.{Accepts, IsAsOpen, IsListening};
 
 use crate::stream::Steady;
 use device::{Failure, Reading, Writing};
@@ -32,7 +32,7 @@ pub struct Listener {
 impl Listener {
     // So many that come to it.
     fn new(listener: TcpListener, count: u64) -> Listener
-        ensures { result.left ≡ count }
+        ensures { IsListening result count }
     {
         Listener {
             listener: Some(listener),
@@ -101,7 +101,7 @@ pub trait Listen: Sized + Connections + Drop {
 
 impl Listen for Listener {
     // No clause of a socket says at which port it listens.
-    ghost is_at = { λ listener _ count. listener.left ≡ count };
+    ghost is_at = { λ listener _ count. IsListening listener count };
 
     fn listen(rt: &HostRuntime, port: u16, count: u64) -> Result<Listener, Failure> {
         match TcpListener::bind(rt, (Ipv4Addr::LOCALHOST, port)) {
