@@ -27,6 +27,8 @@ LEFT_OUT = re.compile(r"test_|bench_")
 NO_END = "100000"
 ROW = re.compile(r"(proves|same|refused|elsewhere|not-judged|not-source|not-run|untested|no-ensures)\s+(src/\S+?):\d+ (.*)$")
 BODY = re.compile(r"(.+?): \{ (.*?) ?\}(?:  \((.*)\))?$")
+# What rt plant writes for a variant whose doc comment it takes for its name.
+MISNAMED = "::///"
 LAST = re.compile(r"^plants crate=(\w+) planted-in=([0-9]+) untested=([0-9]+) no-ensures=([0-9]+)", re.M)
 OUT_OF_TIME = "the check was killed or ran out of time"
 # In whose words a body isn't judged.
@@ -54,11 +56,23 @@ def place(crate):
     return KEPT / f"{crate}-{sum_of(crate)[:16]}"
 
 
+def leave_out_docs(folder):
+    """Takes the doc comments out of a copy of a crate: rt plant takes that of an enum's variant for its name."""
+    for path in (folder / "src").rglob("*.rt"):
+        path.write_text("".join(line for line in path.read_text().splitlines(keepends=True) if not line.lstrip().startswith("///")))
+
+
+def is_whole(said):
+    """Whether each body of a run was a right text, and each check came to its end."""
+    return OUT_OF_TIME not in said and MISNAMED not in said
+
+
 def planted(crate):
     """What `rt plant` says of a crate, from what is kept or by a run, or none where it said no last line."""
-    if place(crate).exists() and OUT_OF_TIME not in place(crate).read_text():
+    if place(crate).exists() and is_whole(place(crate).read_text()):
         return place(crate).read_text()
     with copied(crate) as copy:
+        leave_out_docs(copy.folder)
         ran = subprocess.run(["rt", "plant", "--all", "--max", NO_END, "--minutes", NO_END, "--jobs", "1"], cwd=copy.folder,
                              stdin=subprocess.DEVNULL, stdout=subprocess.PIPE, stderr=subprocess.PIPE, text=True, errors="replace")
     if not LAST.search(ran.stdout):
