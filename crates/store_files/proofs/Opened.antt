@@ -38,7 +38,7 @@ use Rattle.store.specs.InOrder.{order_state, over_order}
 use Rattle.store.specs.Kept.{House, MayLeave, content}
 use Rattle.store_files.proofs.Crashed.{found_left, found_same, recovered}
 use Rattle.store_files.proofs.Orders.{reordered_back, reordered_then}
-use Rattle.store_files.specs.InOrder.{FindsHeld, FindsHouse, FindsLeft, FindsNoTable, FindsObject, HasTrees, HoldsNoTable, HoldsObject, HoldsOther, HoldsSoundFirstHouse, HoldsSoundHouse, IsCrashed, IsFound, LeavesFilesInOrder, MayShow}
+use Rattle.store_files.specs.InOrder.{FindsHeld, FindsHouse, FindsLeft, FindsNoDatabase, FindsNoTable, FindsObject, HasTrees, HoldsNoTable, HoldsObject, HoldsOther, HoldsSoundFirstHouse, HoldsSoundHouse, IsCrashed, IsFound, LeavesFilesInOrder, MayShow}
 
 -- ---- a house by its names
 
@@ -158,6 +158,10 @@ module _ {D : Type 0} (g : disk.Ghosts D) (given : Files D) (stays : SeenMayStay
   leaves_found opened finds store crash = λ found may.
       let is : IsFound g given found = found_at found opened finds (crash found may) in
       (is.found, is.holds)
+
+  -- files over which a connection was opened are none in which an opening finds no database
+  pub finds_some : IsOpened conn → Finds given conn → ¬ (FindsNoDatabase (image_of g given))
+  finds_some opened finds none = none (file_state conn).committed (opened.1 opened.0.is_open).1 finds.reads
 
   -- what it found in them is a database without one
   pub finds_no_table : IsOpened conn → Finds given conn → (file_state conn).now.schema ≡ no_schema → FindsNoTable (image_of g given)

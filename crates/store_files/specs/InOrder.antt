@@ -90,6 +90,10 @@ abbrev pub FindsObject : Image → Type 0
 FindsObject image = (db : Database) × IsDatabase db × AreFoundIn image db.trees
     × (db.schema ≢ no_schema)
 
+-- It finds no database in this, not even an empty one, at any size of a page.
+abbrev pub FindsNoDatabase : Image → Type 0
+FindsNoDatabase image = (db : Database) → IsDatabase db → ¬ (AreFoundIn image db.trees)
+
 -- What it finds in this is a house of version 1, of which this one was made, or it is this one.
 pub record FindsUpgraded (image : Image) (was_first : Bool) (now : Database) : Type 0 where
   pub db : Trees

@@ -12,8 +12,8 @@ ghost use Rattle.store_house.specs.Opening.{IsSoundHouse};
 ghost use Rattle.store_making.specs.Made.{IsMadeHouse};
 ghost use Rattle.store.specs.Kept.{IsHonest, MayLeave, content, is_failed};
 ghost use Rattle.store.specs.InOrder.{order_state, over_order};
-ghost use Rattle.store_files.specs.InOrder.{FindsNoTable, FindsObject, HoldsNoTable, HoldsOther};
-ghost use Rattle.store_files.specs.InOrder.{HoldsObject, LeavesFilesNew};
+ghost use Rattle.store_files.specs.InOrder.{FindsNoDatabase, FindsNoTable, FindsObject};
+ghost use Rattle.store_files.specs.InOrder.{HoldsNoTable, HoldsObject, HoldsOther, LeavesFilesNew};
 
 use crate::openings::connect;
 use house_rows::{KeepFault, Settings};
@@ -30,7 +30,8 @@ use tree_order::Renumbered;
 ///
 /// `Damaged` where they hold one, or are neither empty nor a database, or the zone has control
 /// characters. After an error what is left of the files is given back: they hold what they held, or the
-/// new house. Where they held a table, they hold what they held.
+/// new house. Where they held a table, they hold what they held, and so where an opening finds no
+/// database in them, not even an empty one.
 pub fn create_files<D: Disk + Drop>(
     alloc: Global,
     files: Files<D>,
@@ -55,6 +56,8 @@ pub fn create_files<D: Disk + Drop>(
     ensures left { IfErr result (λ e. IsCleanLeft e.1 → LeavesFilesNew settings.now files e.1) }
     ensures spared { IfErr result (λ e. HoldsObject (image_of D.Disk files) → IsCleanLeft e.1
         → LeavesFiles files e.1) }
+    ensures untouched { IfErr result (λ e. FindsNoDatabase (image_of D.Disk files)
+        → IsCleanLeft e.1 → LeavesFiles files e.1) }
     ensures damaged { IfErr result (λ e. e.0 ≡ Damaged → IsCleanLeft e.1
         → HoldsOther (image_of D.Disk files) ⊎ FindsObject (image_of D.Disk files)
         ⊎ (¬ (is_plain settings.now.zone ≡ true))

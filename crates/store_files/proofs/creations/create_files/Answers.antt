@@ -6,7 +6,7 @@ use Rattle.sqlite_trees.proofs.Doubt.{no_doubt}
 use Rattle.store_rows.specs.Tables.{tables_in}
 use Rattle.store.specs.InOrder.{order_state}
 use Rattle.store_files.proofs.Made.{holds_new, leaves_made, leaves_new, made_new, opens_new, shows_new}
-use Rattle.store_files.proofs.Opened.{finds_no_table, finds_object, holds_no_table, leaves_found, lists_object}
+use Rattle.store_files.proofs.Opened.{finds_no_table, finds_object, finds_some, holds_no_table, leaves_found, lists_object}
 use Rattle.store_files.proofs.creations.create_files.Goals as goal
 
 pub returns-in-Ok-open_house-clause-blank : goal.returns-in-Ok-open_house-clause-blank
@@ -92,6 +92,27 @@ returns-in-Err-clause-spared g c held clean =
     let same = c.in-Err.ensures.same (c.in-Err.ensures.damaged.1 (inr lists)) in
     leaves_found g.D.Disk c.args.files g.met.D.Disk.seen_may_stay conn.conn opened finds c.into_store.result
     (λ db may. subst (λ h. (file_state h).may_leave db) same (quiet.outcomes db may))
+
+-- where no database is found in them, none was opened, and it leaves what they held
+
+pub returns-in_err-conn-clause-untouched : goal.returns-in_err-conn-clause-untouched
+returns-in_err-conn-clause-untouched g c =
+    let p = err_from_is_err_and c.from_residual.result c.from_residual.ensures.1 in
+    rw (p.1, p.2) (λ none clean. c.in_err-conn.ensures.left clean)
+
+pub returns-in-Err-open_house-clause-untouched : goal.returns-in-Err-open_house-clause-untouched
+returns-in-Err-open_house-clause-untouched g c = rw (c.into_inner.ensures) (λ none clean.
+    let conn = c.in_ok-conn in
+    let last = no_doubt _ clean in
+    let sure : HasCleanDisk (file_state conn.conn) = omega (arith, c.in-Err-open_house.ensures.left.clean, c.make_house.ensures.crash.clean, last) in
+    absurd (finds_some g.D.Disk c.args.files g.met.D.Disk.seen_may_stay conn.conn (conn.ensures.opened sure) (conn.ensures.found sure) none))
+
+pub returns-in-Err-clause-untouched : goal.returns-in-Err-clause-untouched
+returns-in-Err-clause-untouched g c none clean =
+    let conn = c.in_ok-conn in
+    let last = no_doubt _ clean in
+    let sure : HasCleanDisk (file_state conn.conn) = omega (arith, c.into_store.ensures.quiet.clean, c.make_house.ensures.crash.clean, last) in
+    absurd (finds_some g.D.Disk c.args.files g.met.D.Disk.seen_may_stay conn.conn (conn.ensures.opened sure) (conn.ensures.found sure) none)
 
 -- it is damaged where they are no place for a house, or the new house is none that an opening takes
 
