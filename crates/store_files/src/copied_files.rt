@@ -1,5 +1,6 @@
 //! Files in memory that hold what other files hold.
-ghost use Rattle.std.specs.Prelude.{◌≡◌, IfOk, IsTrue};
+ghost use Rattle.std.specs.Prelude.{◌≡◌, ◌≤◌, IfOk, IsTrue, OnOk};
+ghost use Rattle.sqlite.specs.Files.{faults_of};
 ghost use Rattle.sqlite_disk.specs.Memory.{memory_bytes, memory_is_usable};
 ghost use Rattle.sqlite_wal.specs.Reads.{OnlyReads};
 
@@ -13,6 +14,8 @@ fn bytes_of<D: Disk>(alloc: Global, file: &mut D) -> io::Result<Vec<u8>>
     ensures bytes { IfOk result (λ bytes. IsTrue (D.Disk.is_clean file.new)
         → bytes.items ≡ D.Disk.seen file.old) }
     ensures reads { OnlyReads D.Disk file.old file.new }
+    ensures unfailed { OnOk result (D.Disk.faults file.new ≡ D.Disk.faults file.old) }
+    ensures counts { D.Disk.faults file.old ≤ D.Disk.faults file.new }
 {
     let length = file.len()?;
     let mut bytes = Vec::new(alloc);
@@ -39,6 +42,8 @@ fn copy_of<D: Disk>(alloc: Global, file: &mut D) -> io::Result<Memory>
         → memory_bytes copy ≡ D.Disk.seen file.old) }
     ensures usable { IfOk result (λ copy. IsTrue (memory_is_usable copy)) }
     ensures reads { OnlyReads D.Disk file.old file.new }
+    ensures unfailed { OnOk result (D.Disk.faults file.new ≡ D.Disk.faults file.old) }
+    ensures counts { D.Disk.faults file.old ≤ D.Disk.faults file.new }
 {
     let bytes = bytes_of(alloc, file)?;
     memory_with(alloc, &bytes)
@@ -47,7 +52,8 @@ fn copy_of<D: Disk>(alloc: Global, file: &mut D) -> io::Result<Memory>
 /// A copy of a log and of a database file, in memory. It holds what reading shows, as long as the
 /// disk doesn't lie.
 ///
-/// The files are only read: they show what they did, and a crash leaves nothing else than before.
+/// The files are only read, also where there is an error: they show what they did, and a crash
+/// leaves nothing else than before. There is no copy where one of them counts a call that failed.
 pub fn copy_files<D: Disk>(alloc: Global, files: &mut Files<D>) -> io::Result<Files<Memory>>
     requires log { IsTrue (D.Disk.is_usable files.old.log) }
     requires db { IsTrue (D.Disk.is_usable files.old.db) }
@@ -59,6 +65,8 @@ pub fn copy_files<D: Disk>(alloc: Global, files: &mut Files<D>) -> io::Result<Fi
         × IsTrue (memory_is_usable copy.db)) }
     ensures reads_log { OnlyReads D.Disk files.old.log files.new.log }
     ensures reads_db { OnlyReads D.Disk files.old.db files.new.db }
+    ensures unfailed { OnOk result (faults_of D.Disk files.new ≡ faults_of D.Disk files.old) }
+    ensures counts { faults_of D.Disk files.old ≤ faults_of D.Disk files.new }
 {
     let log = copy_of(alloc, &mut files.log)?;
     let db = copy_of(alloc, &mut files.db)?;

@@ -1,6 +1,7 @@
 //! Keeps of the house in two files, over copies of them.
-ghost use Rattle.std.specs.Prelude.{◌≡◌, false, IfOk, IsTrue};
-ghost use Rattle.sqlite.specs.Files.{image_of};
+ghost use Rattle.std.specs.Prelude.{◌≡◌, ◌≢◌, ◌≤◌, false, IfErr, IfOk, IsTrue, OnOk};
+ghost use Rattle.house_rows.specs.declared.fault.KeepFault.TheVariants.{Damaged};
+ghost use Rattle.sqlite.specs.Files.{faults_of, image_of};
 ghost use Rattle.sqlite_wal.specs.Reads.{AreClean, OnlyReads};
 ghost use Rattle.store.specs.Kept.{is_failed};
 ghost use Rattle.store_files.specs.InOrder.{HasFoundHouse, HasTablesHeld};
@@ -31,7 +32,9 @@ pub trait InMemory: Sized + Disk + Drop {
         ensures usable { IfOk result (λ copy. IsTrue (Self.Disk.is_usable copy.log)
             × IsTrue (Self.Disk.is_usable copy.db)) }
         ensures reads_log { OnlyReads D.Disk files.old.log files.new.log }
-        ensures reads_db { OnlyReads D.Disk files.old.db files.new.db };
+        ensures reads_db { OnlyReads D.Disk files.old.db files.new.db }
+        ensures unfailed { OnOk result (faults_of D.Disk files.new ≡ faults_of D.Disk files.old) }
+        ensures counts { faults_of D.Disk files.old ≤ faults_of D.Disk files.new };
 }
 
 impl InMemory for Memory {
@@ -41,7 +44,9 @@ impl InMemory for Memory {
 }
 
 // Why files can't be copied.
-fn copy_fault(error: &io::Error) -> KeepFault {
+fn copy_fault(error: &io::Error) -> KeepFault
+    ensures { result ≢ Damaged }
+{
     if error.kind() == io::ErrorKind::OutOfMemory {
         KeepFault::Memory
     } else {
@@ -71,6 +76,10 @@ fn open_copy<D: Disk, M: InMemory>(
     ensures works { IfOk result (λ keep. is_failed keep ≡ false) }
     ensures reads_log { OnlyReads D.Disk files.old.log files.new.log }
     ensures reads_db { OnlyReads D.Disk files.old.db files.new.db }
+    ensures unfailed { OnOk result (faults_of D.Disk files.new ≡ faults_of D.Disk files.old) }
+    ensures counts { faults_of D.Disk files.old ≤ faults_of D.Disk files.new }
+    ensures damaged { IfErr result (λ fault. fault ≡ Damaged
+        → faults_of D.Disk files.new ≡ faults_of D.Disk files.old) }
 {
     match M::copy_files(alloc, files) {
         Ok(copy) => match open_files(alloc, copy, Options::new(SEED)) {
@@ -85,7 +94,10 @@ fn open_copy<D: Disk, M: InMemory>(
 /// them in memory. Both have the tables of that house, as long as the disk doesn't lie. Files that hold
 /// nothing are no house.
 ///
-/// The files are only read: they show what they did, and a crash leaves nothing else than before.
+/// The files are only read, also where there is an error: they show what they did, and a crash
+/// leaves nothing else than before. Where one of them counts a call that failed, this is neither Ok
+/// nor `Damaged`.
+///
 /// `Damaged` where they hold no house that `open_files` opens, `Store` where they can't be read,
 /// and `Memory` where a copy finds no room.
 pub fn open_copies<D: Disk, M: InMemory>(
@@ -112,6 +124,10 @@ pub fn open_copies<D: Disk, M: InMemory>(
     ensures right_works { IfOk result (λ keeps. is_failed keeps.1 ≡ false) }
     ensures reads_log { OnlyReads D.Disk files.old.log files.new.log }
     ensures reads_db { OnlyReads D.Disk files.old.db files.new.db }
+    ensures unfailed { OnOk result (faults_of D.Disk files.new ≡ faults_of D.Disk files.old) }
+    ensures counts { faults_of D.Disk files.old ≤ faults_of D.Disk files.new }
+    ensures damaged { IfErr result (λ fault. fault ≡ Damaged
+        → faults_of D.Disk files.new ≡ faults_of D.Disk files.old) }
 {
     let left = open_copy(alloc, files)?;
     match open_copy(alloc, files) {
