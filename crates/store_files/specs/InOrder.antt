@@ -1,24 +1,29 @@
 -- A keep over two files whose trees are shown in the order of a house: what an opening of such
 -- files takes, and what a crash leaves of them. Start here.
 use Rattle.std.specs.Prelude.{◌≡◌, ◌≢◌, ◌⊎◌, Bool, IsTrue, [], false, true}
+use Rattle.sqlite_disk.specs.Disk.{MoreFaults}
 use Rattle.sqlite_disk.specs.declared.Disk as disk
 use Rattle.sqlite_disk.specs.declared.Files.{Files}
 use Rattle.sqlite_wal.specs.Files.{outcomes}
+use Rattle.sqlite_wal.specs.Reads.{AreClean}
 use Rattle.sqlite_wal.specs.Recovery.{Image}
 use Rattle.sqlite_trees.specs.Tree.{Trees}
 use Rattle.sqlite_store.specs.FileStore.{files, recovers, view}
 use Rattle.sqlite_store.specs.declared.store.FileStore.{FileStore}
 use Rattle.sqlite.specs.Effect.{Database, IsDatabase}
-use Rattle.sqlite.specs.Files.{AreFound, AreFoundIn, HoldsDatabase, IsNothing, LeavesFiles, image_of}
+use Rattle.sqlite.specs.Files.{AreFound, AreFoundIn, HoldsDatabase, IsCleanLeft, IsNothing, LeavesFiles, faults_left, faults_of, image_of}
 use Rattle.sqlite.specs.declared.file.Leftover.{Leftover}
 use Rattle.sqlite.specs.declared.file.Leftover.TheVariants as left
 use Rattle.house_rows.specs.Tables.{Tables, tables_of}
+use Rattle.house_rows.specs.declared.fault.KeepFault.{KeepFault}
+use Rattle.house_rows.specs.declared.fault.KeepFault.TheVariants.{Damaged}
 use Rattle.house_rows.specs.declared.settings.Settings.{Settings}
 use Rattle.tree_order.specs.declared.renumbered.Renumbered.{Renumbered}
 use Rattle.store_rows.specs.Schema.{no_schema}
 use Rattle.store_rows.specs.Tables.{IsAtRest}
 use Rattle.store_house.specs.Named.{HoldsHouse, HoldsSound, HoldsSoundFirst, IsArranged, IsReordered, UpgradesHeld, first_tables_held, tables_held}
 use Rattle.store_making.specs.Made.{IsMadeHouse}
+use Rattle.store.specs.Closing.{MayHold}
 use Rattle.store.specs.Kept.{House, IsHonest, LeavesHouses, MayLeave, content}
 use Rattle.store.specs.InOrder.{order_state, over_order}
 
@@ -194,3 +199,16 @@ pub record FindsLeft {D : Type 0} (g : disk.Ghosts D)
   pub trees : ∥ MayShow before (order_state after.conn).now.trees ∥₁
   pub same : IsAtRest (order_state before.conn)
       → content over_order after ≡ content over_order before
+
+-- What is left of the files of a keep that a crash has stopped, and that could not be opened, with
+-- this fault. As the crash left them, where they were honest, they held tables that it may leave of
+-- the keep, and no sound house where the fault is `Damaged` and the disk didn't fail. What is left
+-- of them holds what they held.
+pub record LeavesCrashed {D : Type 0} (g : disk.Ghosts D)
+    (before : House (Renumbered (FileStore D g))) (fault : KeepFault) (rest : Leftover D g)
+    : Type 0 where
+  pub given : Files D
+  pub held : AreClean g given.log given.db → MayHold before (image_of g given)
+  pub kept : IsCleanLeft rest → LeavesFilesInOrder given rest
+  pub damaged : fault ≡ Damaged → IsCleanLeft rest
+      → (¬ (HoldsSoundHouse (image_of g given))) ⊎ MoreFaults (faults_of g given) (faults_left rest)
