@@ -9,3 +9,4 @@ pub mod Known
 pub mod Moves
 pub mod Remembered
 pub mod Sound
+pub mod Unclosed

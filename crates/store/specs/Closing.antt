@@ -1,6 +1,9 @@
 -- What a keep in order that is ended leaves in its files.
 use Rattle.std.specs.Prelude.{◌≡◌, ◌≤◌, IsTrue, false}
 use Rattle.house_rows.specs.Tables.{Tables}
+use Rattle.house_rows.specs.declared.fault.KeepFault.{KeepFault}
+use Rattle.house_rows.specs.declared.fault.KeepFault.TheVariants.{Store}
+use Rattle.sqlite_disk.specs.Disk.{MoreFaults}
 use Rattle.sqlite_disk.specs.declared.Disk as disk
 use Rattle.sqlite_disk.specs.declared.Files.{Files}
 use Rattle.sqlite_wal.specs.Files.{outcomes}
@@ -102,3 +105,12 @@ pub record IsLeft {D : Type 0} (g : disk.Ghosts D) (keep : House (Renumbered (Fi
   pub closed : IsClosed keep.conn store
   pub tables : IsClean (view store) → (found : Trees) → recovers store found
       → MayLeave over_order keep (tables_held found)
+
+-- Why a keep could not be ended, of which these files are left. The store failed only where the disk failed
+-- or refused in that time, or the connection of the keep was shut before.
+pub record IsUnclosed {D : Type 0} (g : disk.Ghosts D) (keep : House (Renumbered (FileStore D g)))
+    (files : Files D) (fault : KeepFault) : Type 0 where
+  pub last : FileStore D g
+  pub of_store : (files.log, files.db) ≡ store_files last
+  pub store : fault ≡ Store → IsClean (view last) → IsTrue (order_state keep.conn).is_open
+      → MoreFaults (order_state keep.conn).faults (faults last)

@@ -1,13 +1,14 @@
 //! A connection over two files is closed, and a keep ended.
 ghost use Rattle.std.specs.Prelude.{◌≡◌, ◌≢◌, IfErr, IfOk, IsErrOf, IsTrue, OnErr, OnOk};
 ghost use Rattle.house_rows.specs.declared.fault.KeepFault.TheVariants.{Damaged};
+ghost use Rattle.sqlite_disk.specs.Disk.{MoreFaults};
 ghost use Rattle.sqlite_store.specs.FileStore.{faults, files as store_files, is_shielded};
 ghost use Rattle.sqlite_store.specs.FileStore.{recovers, view};
 ghost use Rattle.sqlite_store.specs.declared.store.FileStore.{FileStore};
-ghost use Rattle.sqlite_trees.specs.View.{IsQuiet};
+ghost use Rattle.sqlite_trees.specs.View.{IsClean, IsQuiet};
 ghost use Rattle.sqlite_wal.specs.Reads.{AreClean};
 ghost use Rattle.store.specs.Kept.{IsKept, LeavesHouses};
-ghost use Rattle.store.specs.Closing.{IsClosed, IsCopied, IsEmptied, IsEnded, IsLeft};
+ghost use Rattle.store.specs.Closing.{IsClosed, IsCopied, IsEmptied, IsEnded, IsLeft, IsUnclosed};
 ghost use Rattle.store.specs.InOrder.{order_state};
 
 use crate::keep::SqlKeep;
@@ -20,7 +21,8 @@ use tree_order::Renumbered;
 
 // Which fault it is that a store can't be closed.
 fn close_fault(error: StoreError) -> KeepFault
-    ensures { result ≢ Damaged }
+    ensures sound { result ≢ Damaged }
+    ensures store { result ≡ KeepFault.Store → error ≢ StoreError.OutOfMemory }
 {
     match error {
         StoreError::OutOfMemory => KeepFault::Memory,
@@ -37,6 +39,8 @@ fn close_store<D: Disk + Drop>(store: FileStore<D>) -> Result<Files<D>, (KeepFau
         × IsTrue (D.Disk.is_usable files.db)) }
     ensures left { IfErr result (λ e. IsQuiet view faults recovers is_shielded store e.1) }
     ensures sound { IfErr result (λ e. e.0 ≢ Damaged) }
+    ensures cause { IfErr result (λ e. e.0 ≡ KeepFault.Store → IsClean (view e.1)
+        → IsTrue (view store).is_open → MoreFaults (faults store) (faults e.1)) }
 {
     let mut store = store;
     store.rollback();
@@ -51,7 +55,8 @@ fn close_store<D: Disk + Drop>(store: FileStore<D>) -> Result<Files<D>, (KeepFau
 /// its log, in the order that it had there.
 ///
 /// After an error the store is given back: a crash finds nothing that it could not have found
-/// before, but for the order.
+/// before, but for the order. The fault is `Store` only where the disk failed or refused during the
+/// closing, or the connection was shut before.
 pub fn close_connection<D: Disk + Drop>(
     conn: Connection<Renumbered<FileStore<D>>>,
 ) -> Result<Files<D>, (KeepFault, FileStore<D>)>
@@ -62,6 +67,9 @@ pub fn close_connection<D: Disk + Drop>(
         × IsTrue (D.Disk.is_usable files.db)) }
     ensures left { IfErr result (λ e. IsClosed conn e.1) }
     ensures sound { IfErr result (λ e. e.0 ≢ Damaged) }
+    ensures cause { IfErr result (λ e. e.0 ≡ KeepFault.Store → IsClean (view e.1)
+        → IsTrue (order_state conn).is_open
+        → MoreFaults (order_state conn).faults (faults e.1)) }
 {
     close_store(conn.into_store().into_inner())
 }
@@ -80,13 +88,15 @@ impl<S: Alter + Drop> SqlKeep<S> {
 /// Ends a keep, and gives its files back. The database file then holds what was committed last, and
 /// that alone, with no need of its log, in the order that it had there. Where no call has answered
 /// Store that is the house. After an `Err` a crash of file and log leaves nothing that it could not
-/// have left before, but for the order.
+/// have left before, but for the order. `Store` comes only where the disk failed or refused as the keep
+/// was ended, or its connection was shut before.
 pub fn close_files<D: Disk + Drop>(
     keep: SqlKeep<Renumbered<FileStore<D>>>,
 ) -> (Result<(), KeepFault>, Files<D>)
     ensures ended { OnOk result.0 (IsEnded D.Disk keep result.1) }
     ensures left { OnErr result.0 (IsLeft D.Disk keep result.1) }
     ensures sound { ¬ (IsErrOf result.0 Damaged) }
+    ensures cause { IfErr result.0 (IsUnclosed D.Disk keep result.1) }
 {
     match close_connection(keep.into_connection()) {
         Ok(files) => (Ok(()), files),

@@ -1,4 +1,7 @@
-use Rattle.std.proofs.Common.{subst, sym}
+use Rattle.std.proofs.Common.{IsTrue, subst, sym}
+use Rattle.sqlite_disk.specs.Disk.{MoreFaults}
+use Rattle.sqlite_store.specs.FileStore.{faults, view}
+use Rattle.sqlite_trees.specs.View.{IsClean}
 use Rattle.store.specs.Kept.{LeavesHouses}
 use Rattle.store.proofs.Ended.{ended, not_ended}
 use Rattle.store.specs.Closing.{IsClosed, IsCopied}
@@ -20,3 +23,12 @@ returns-in-Err-clause-left g c =
     let conn = c.into_connection.ensures in
     not_ended g.D.Disk c.args.keep conn.kept c.close.result c.in-Err.store c.close.ensures
     (subst (λ h. IsClosed h c.in-Err.store) conn.conn c.in-Err.ensures.left)
+
+pub returns-in-Err-clause-cause : goal.returns-in-Err-clause-cause
+returns-in-Err-clause-cause g c = record {
+  last = c.in-Err.store;
+  of_store = c.close.ensures;
+  store = λ is. subst (λ h. IsClean (view c.in-Err.store) → IsTrue (order_state h).is_open
+      → MoreFaults (order_state h).faults (faults c.in-Err.store)) c.into_connection.ensures.conn
+      (c.in-Err.ensures.cause is);
+}

@@ -1,10 +1,13 @@
 use Rattle.std.proofs.Common.{◌∙◌, IsTrue, ap, arith, subst, sym}
+use Rattle.std.proofs.lemmas.Result.{IfErr-at_err}
 use Rattle.sqlite_pool.proofs.StateLemmas.{open_usable}
 use Rattle.sqlite_rules.proofs.ViewLemmas.{still_quiet}
-use Rattle.sqlite_store.specs.FileStore.{state, view}
+use Rattle.sqlite_disk.specs.Disk.{MoreFaults}
+use Rattle.sqlite_store.specs.FileStore.{faults, state, view}
 use Rattle.sqlite_trees.proofs.Doubt.{clean_of as sure}
-use Rattle.sqlite_trees.specs.View.{IsClean, View}
+use Rattle.sqlite_trees.specs.View.{HasCause, IsClean, View}
 use Rattle.sqlite_wal.proofs.StateLemmas.{open_from}
+use Rattle.store.proofs.Unclosed.{disk_failed}
 use Rattle.store.proofs.close.close_store.Goals as goal
 
 pub returns-in-Ok-clause-emptied : goal.returns-in-Ok-clause-emptied
@@ -32,3 +35,13 @@ returns-in-Ok-clause-usable g c =
 
 pub returns-in-Err-clause-left : goal.returns-in-Err-clause-left
 returns-in-Err-clause-left g c = still_quiet c.rollback.ensures.quiet c.checkpoint.ensures.quiet
+
+pub returns-in-Err-clause-cause : goal.returns-in-Err-clause-cause
+returns-in-Err-clause-cause g c = λ is clean on.
+    let before = c.rollback.new.self in
+    let last = c.checkpoint.new.self in
+    let Cause = HasCause (view before) (MoreFaults (faults before) (faults last)) ⊥ in
+    disk_failed c.args.store before last c.in-Err.error c.rollback.ensures.undone c.rollback.ensures.quiet
+    c.checkpoint.ensures.quiet
+    (IfErr-at_err Cause c.in-Err.is (c.checkpoint.ensures.cause clean))
+    (c.close_fault.ensures.store is) clean on
