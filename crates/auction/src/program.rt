@@ -1,7 +1,9 @@
 //! The program's run: words in, an exit status out.
-ghost use Rattle.std.specs.Prelude.{◌≡◌, ◌≤◌};
+ghost use Rattle.std.specs.Prelude.{◌≡◌, ◌≢◌, ◌≤◌};
 ghost use Rattle.auction.specs.Tasks.{IsDone, IsLeftOf};
 ghost use Rattle.auction_runs.specs.Served.{most_messages};
+ghost use Rattle.clap.specs.Values.{kind_of};
+ghost use Rattle.clap.specs.declared.error.kind.ErrorKind.TheVariants.{DisplayHelp, DisplayVersion};
 ghost use Rattle.site_connections.specs.Turns.{Takes};
 
 use crate::accounts::statement_file;
@@ -191,7 +193,9 @@ fn do_task<F: KeepInFile, M: KeepInMemory, C: Listen>(
 
 // The end of a run whose words are refused, or ask for help.
 fn refuse(rt: &HostRuntime, error: &Error) -> u8
-    ensures { result ≤ 2 }
+    ensures within { result ≤ 2 }
+    ensures mistake { (kind_of error.now ≢ DisplayHelp) → (kind_of error.now ≢ DisplayVersion)
+        → result ≢ 0 }
 {
     if error.kind() == clap::error::ErrorKind::OutOfMemory {
         return no_memory(rt);
