@@ -3,8 +3,13 @@ use Rattle.std.specs.Prelude.{ℕ, Bool, List, ⊤}
 use Rattle.auction_runs.specs.Listed.{HasTaken, IsOrderedOver}
 use Rattle.auction_runs.specs.Over.{IsOver, IsReadOver}
 use Rattle.auction_runs.specs.Runs.{HasAsked, HasDone, HasServed, HasSetTable, IsLeftBy, IsMadeBy, IsServedOver, IsUpgradedAs, MayHaveSetTable}
+use Rattle.auction_words.specs.Houses.{IsNew}
+use Rattle.auction_words.specs.declared.command_line.Beginning.{Beginning}
+use Rattle.auction_words.specs.declared.command_line.Beginning.TheVariants.{House, New}
+use Rattle.auction_words.specs.declared.command_line.HouseWords.{HouseWords}
 use Rattle.auction_words.specs.declared.command_line.Task.{Task}
 use Rattle.auction_words.specs.declared.command_line.Task.TheVariants.{Audit, Bands, Import, Init, Replay, Serve, Statement, Surplus, Upgrade}
+use Rattle.house_rows.specs.Tables.{Tables}
 use Rattle.house_rows.specs.declared.keep.Keep as keep
 use Rattle.house_rows.specs.declared.settings.Settings.{Settings}
 use Rattle.settle.specs.declared.zone.Zone.{Zone}
@@ -36,6 +41,28 @@ IsDone k is_at is_ended is_opened is_new is_upgraded Takes (Upgrade path) = IsEn
 IsDone k is_at is_ended is_opened is_new is_upgraded Takes (Replay words asked) = λ _. ⊤
 IsDone k is_at is_ended is_opened is_new is_upgraded Takes (Audit begun asked) = λ _. ⊤
 IsDone k is_at is_ended is_opened is_new is_upgraded Takes (Surplus begun asked) = λ _. ⊤
+
+-- a keep in memory was made of a new house, as the words set it up
+pub record IsMadeNew {M : Type 0} (content : M → Tables) (words : HouseWords) : Type 0 where
+  pub given : M
+  pub new : IsNew words (content given)
+
+-- so it was where a comparison begins with new houses
+abbrev pub IsBegunNew : {M : Type 0} → (M → Tables) → Beginning → Type 0
+IsBegunNew content (New words) = IsMadeNew content words
+IsBegunNew content (House path) = ⊤
+
+-- and of each task that is done over new houses in memory. What was answered over them isn't said here
+abbrev pub HasNewHouse : {M : Type 0} → (M → Tables) → Task → Type 0
+HasNewHouse content (Init path words) = ⊤
+HasNewHouse content (Serve path asked) = ⊤
+HasNewHouse content (Import path asked) = ⊤
+HasNewHouse content (Statement path asked) = ⊤
+HasNewHouse content (Bands path asked) = ⊤
+HasNewHouse content (Upgrade path) = ⊤
+HasNewHouse content (Replay words asked) = IsMadeNew content words
+HasNewHouse content (Audit begun asked) = IsBegunNew content begun
+HasNewHouse content (Surplus begun asked) = IsBegunNew content begun
 
 -- this is left of the file, however the task ended
 abbrev pub IsLeftOf : {C K R L : Type 0} → keep.Ghosts K → (C → ℕ → ℕ → Type 0) → (K → L → Type 0)

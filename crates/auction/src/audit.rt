@@ -1,5 +1,6 @@
 //! `audit` and `surplus`: the messages of files, over new houses or over copies of one in a file.
 ghost use Rattle.std.specs.Prelude.{◌≡◌, ◌≤◌, IfOk};
+ghost use Rattle.auction.specs.Tasks.{IsBegunNew, IsMadeNew};
 ghost use Rattle.auction_words.specs.Houses.{IsNew};
 
 use crate::copies::{CopiedKeep, Copies, StoreInMemory};
@@ -124,7 +125,8 @@ fn compare_new<K: KeepInMemory>(
     words: &HouseWords<'_>,
     asked: Comparison<'_>,
 ) -> u8
-    ensures { result ≤ 1 }
+    ensures made { result ≡ 0 → IsMadeNew K.content words.now }
+    ensures within { result ≤ 1 }
 {
     match new_houses::<K>(rt, alloc, words) {
         Ok((left, right)) => compare_keeps(rt, alloc, Houses::New, left, right, asked),
@@ -185,7 +187,8 @@ pub(crate) fn compare<M: KeepInMemory, T: Place>(
     asked: Comparison<'_>,
     first: T,
 ) -> u8
-    ensures { result ≤ 1 }
+    ensures made { result ≡ 0 → IsBegunNew M.content begun.now }
+    ensures within { result ≤ 1 }
 {
     match begun {
         Beginning::New(house) => compare_new::<M>(rt, alloc, house, asked),

@@ -1,6 +1,6 @@
 //! The program's run: words in, an exit status out.
 ghost use Rattle.std.specs.Prelude.{◌≡◌, ◌≢◌, ◌≤◌};
-ghost use Rattle.auction.specs.Tasks.{IsDone, IsLeftOf};
+ghost use Rattle.auction.specs.Tasks.{HasNewHouse, IsDone, IsLeftOf};
 ghost use Rattle.auction_runs.specs.Served.{most_messages};
 ghost use Rattle.clap.specs.Values.{kind_of};
 ghost use Rattle.clap.specs.declared.error.kind.ErrorKind.TheVariants.{DisplayHelp, DisplayVersion};
@@ -155,6 +155,7 @@ fn do_task<F: KeepInFile, M: KeepInMemory, C: Listen>(
         F.is_upgraded
         (λ zone. Takes F.Keep C.Input.Source C.Output.Sink C.accepts C.ends zone most_messages)
         task.now result.1 }
+    ensures made { result.0 ≡ 0 → HasNewHouse M.content task.now }
     ensures left { IsLeftOf F.Keep C.is_at F.is_ended F.is_left F.is_opened F.is_new
         F.is_upgraded F.is_held F.is_made F.is_grown
         (λ zone. Takes F.Keep C.Input.Source C.Output.Sink C.accepts C.ends zone most_messages)

@@ -1,5 +1,6 @@
 //! `replay`: standard input over a new house in memory.
-ghost use Rattle.std.specs.Prelude.{◌≤◌, IfErr, IfOk};
+ghost use Rattle.std.specs.Prelude.{◌≡◌, ◌≤◌, IfErr, IfOk};
+ghost use Rattle.auction.specs.Tasks.{IsMadeNew};
 ghost use Rattle.auction_runs.specs.Faults.{IsOfSettings};
 ghost use Rattle.auction_words.specs.Houses.{IsNew};
 
@@ -29,7 +30,8 @@ pub(crate) fn replay_input<K: KeepInMemory>(
     words: &HouseWords<'_>,
     asked: Replay,
 ) -> u8
-    ensures { result ≤ 1 }
+    ensures made { result ≡ 0 → IsMadeNew K.content words.now }
+    ensures within { result ≤ 1 }
 {
     let mut errors = Writing::new(rt.stderr());
     match new_house::<K>(rt, alloc, words) {

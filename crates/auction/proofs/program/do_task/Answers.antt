@@ -11,3 +11,6 @@ returns-in-Statement-clause-done g c = rw c.in-Statement.is c.statement_file.ens
 
 pub returns-in-Bands-clause-done : goal.returns-in-Bands-clause-done
 returns-in-Bands-clause-done g c = rw c.in-Bands.is c.bands_file.ensures.set
+
+pub returns-in-Replay-clause-made : goal.returns-in-Replay-clause-made
+returns-in-Replay-clause-made g c = rw c.in-Replay.is c.replay_input.ensures.made
