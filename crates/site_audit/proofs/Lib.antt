@@ -9,3 +9,4 @@ mod RaisedRuns
 mod Runs
 mod SealedBids
 mod Twins
+mod Unanswered

@@ -1,6 +1,7 @@
 -- The result of an audit of two houses that live on.
 use Rattle.std.specs.Prelude.{◌≡◌, ◌⊎◌, ◌-◌, ℕ, List, Bool, true, map, take, Result, Ok, Err}
 use Rattle.std.specs.Cow.{cow_slice_items}
+use Rattle.std.specs.List.{AllZip}
 use Rattle.house_laws.specs.Alike.{AreAlike}
 use Rattle.house_rows.specs.declared.settings.Settings.{Settings}
 use Rattle.house_rows.specs.History.{History}
@@ -13,7 +14,7 @@ use Rattle.site_audit.specs.declared.fault.AuditFault.TheVariants.{Memory, Store
 use Rattle.site_audit.specs.declared.verdict.Verdict.{Verdict}
 use Rattle.site_audit.specs.declared.verdict.Verdict.TheVariants.{Equal, Apart}
 use Rattle.site_audit.specs.Audits.{what_is_asked}
-use Rattle.site_audit.specs.Places.{Heard, heard_message}
+use Rattle.site_audit.specs.Places.{ArePaired, Have, Heard, heard_message}
 
 -- the history after texts
 abbrev pub heard_history : Settings → History → List Heard → History
@@ -57,3 +58,25 @@ IsFoundFrom content is_failed settings zone c h k lefts rights left right (Err N
 IsFoundFrom content is_failed settings zone c h k lefts rights left right (Err Memory) = Unit {0}
 IsFoundFrom content is_failed settings zone c h k lefts rights left right (Err Store) =
     (is_failed left ≡ true) ⊎ (is_failed right ≡ true)
+
+-- in each of the first so many places the texts may be there: they are equal, byte for byte, or neither
+-- is the caller's; and no list ends in them before the other
+abbrev pub ArePairedTo : ℕ → ℕ → List Heard → List Heard → Type 0
+ArePairedTo c step lefts rights = AllZip (ArePaired c) (take step lefts) (take step rights)
+
+-- two lists part in a place, counted from 1: where the texts may not be there, or a list has none,
+-- nothing was answered in it, so the keeps have the tables of the texts before it
+abbrev pub IsUnanswered : {K : Type 0} → (K → Tables) → Settings → ℕ → History → History
+    → List Heard → List Heard → ℕ → K → K → Type 0
+IsUnanswered content settings c h k lefts rights step left right =
+    ¬ (ArePairedTo c step lefts rights)
+    → Have content settings (heard_history settings h (take (step - 1) lefts))
+    (heard_history settings k (take (step - 1) rights)) left right
+
+-- so it is of a result that tells where they part
+abbrev pub StopsUnanswered : {K : Type 0} → (K → Tables) → Settings → ℕ → History → History
+    → List Heard → List Heard → K → K → Result Verdict AuditFault → Type 0
+StopsUnanswered content settings c h k lefts rights left right (Ok (Apart step)) =
+    IsUnanswered content settings c h k lefts rights step left right
+StopsUnanswered content settings c h k lefts rights left right (Ok (Equal replies)) = Unit {0}
+StopsUnanswered content settings c h k lefts rights left right (Err fault) = Unit {0}

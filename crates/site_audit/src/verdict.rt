@@ -1,5 +1,5 @@
 //! Two lists of messages, compared as a caller sees them.
-ghost use Rattle.std.specs.Prelude.{◌≡◌, ◌+◌, ◌<◌, ◌^◌, List, IsErrOf, map};
+ghost use Rattle.std.specs.Prelude.{◌≡◌, ◌+◌, ◌<◌, ◌^◌, [], List, IsErrOf, map};
 ghost use Rattle.std.specs.List.{AllZip};
 ghost use Rattle.house_laws.specs.Alike.{AreAlike};
 ghost use Rattle.house_rows.specs.Answers.{Reads};
@@ -9,7 +9,7 @@ ghost use Rattle.house_rows.specs.Tables.{tables_of};
 ghost use Rattle.house_rows.specs.Verdict.{IsHistory};
 ghost use Rattle.site.specs.Replies.{zone_of};
 ghost use Rattle.site_audit.specs.Audits.{IsVerdict};
-ghost use Rattle.site_audit.specs.AuditsFrom.{IsFoundFrom};
+ghost use Rattle.site_audit.specs.AuditsFrom.{IsFoundFrom, StopsUnanswered};
 ghost use Rattle.site_audit.specs.Places.{Heard, IsHeard, IsUsed, keep_of};
 
 use crate::fault::AuditFault;
@@ -50,7 +50,8 @@ fn apart_at(place: usize) -> Verdict
 ///
 /// The houses may have any two histories that are alike for the caller: two of equal tables have one.
 /// Where the lists are twin runs, the histories after them are alike again, so that it can be asked
-/// of the next two lists. NotNew is never answered.
+/// of the next two lists. Where the texts of a place may not be there, or one list has ended, neither
+/// house answers in it: both have what came before it. NotNew is never answered.
 pub fn audit_from<K: Keep + Drop>(
     alloc: Global,
     left: &mut Site<K>,
@@ -69,6 +70,17 @@ pub fn audit_from<K: Keep + Drop>(
         → AllZip IsHeard (map (λ m. m.items) right_messages.now) rights
         → IsFoundFrom K.content K.is_failed settings (zone_of left.old) caller h k lefts rights
         (keep_of left.new) (keep_of right.new) result }
+    ensures unanswered { K.is_honest (keep_of left.new) → K.is_honest (keep_of right.new)
+        → (settings : TheSettings) (h k : History)
+        → IsHistory settings h → IsHistory settings k
+        → K.content (keep_of left.old) ≡ tables_of settings h
+        → K.content (keep_of right.old) ≡ tables_of settings k
+        → (lefts rights : List Heard)
+        → AllZip IsHeard (map (λ m. m.items) left_messages.now) lefts
+        → AllZip IsHeard (map (λ m. m.items) right_messages.now) rights
+        → StopsUnanswered K.content settings caller h k lefts rights (keep_of left.new)
+        (keep_of right.new) result }
+
     // Whatever the houses are.
     ensures never { ¬ (IsErrOf result AuditFault.NotNew) }
     ensures left { IsUsed K.is_failed K.is_honest left.old left.new }
@@ -94,8 +106,9 @@ pub fn audit_from<K: Keep + Drop>(
 ///
 /// Twin runs are of equal length; at each place the messages are equal, byte for byte, or neither is
 /// the caller's; and after each place everything public agrees, and the questions that wait for the
-/// caller. NotNew is answered exactly where a house isn't new, or the two were set up differently,
-/// and then nothing is changed.
+/// caller. As at `audit_from`, neither house answers a text that may not be at its place. NotNew is
+/// answered exactly where a house isn't new, or the two were set up differently, and then nothing is
+/// changed.
 pub fn audit<K: Keep + Drop>(
     alloc: Global,
     left: &mut Site<K>,
@@ -114,6 +127,16 @@ pub fn audit<K: Keep + Drop>(
         → AllZip IsHeard (map (λ m. m.items) right_messages.now) rights
         → IsVerdict K.content K.is_failed settings (zone_of left.old) caller lefts rights
         (keep_of left.old) (keep_of right.old) (keep_of left.new) (keep_of right.new) result }
+    ensures unanswered { K.is_honest (keep_of left.new) → K.is_honest (keep_of right.new)
+        → (settings others : TheSettings) (h k : History)
+        → IsHistory settings h → IsHistory others k
+        → K.content (keep_of left.old) ≡ tables_of settings h
+        → K.content (keep_of right.old) ≡ tables_of others k
+        → (lefts rights : List Heard)
+        → AllZip IsHeard (map (λ m. m.items) left_messages.now) lefts
+        → AllZip IsHeard (map (λ m. m.items) right_messages.now) rights
+        → StopsUnanswered K.content settings caller [] [] lefts rights (keep_of left.new)
+        (keep_of right.new) result }
 
     // Whatever the houses are.
     ensures unbegun { IsErrOf result AuditFault.NotNew
