@@ -1,9 +1,9 @@
 -- What the runs of the program leave.
 use Rattle.std.proofs.Common.{◌≡◌, ◌∙◌, ◌⊎◌, ℕ, List, [], Bool, true, false, arith, refl, inl, inr, sym, subst}
 use Rattle.std.proofs.Math.Logic.{∥∥₁_map}
-use Rattle.auction_runs.specs.Listed.{IsOrderedOver}
+use Rattle.auction_runs.specs.Listed.{HasOrderedIn, IsOrderedOver}
 use Rattle.auction_runs.specs.Over.{IsOver, IsReadOver}
-use Rattle.auction_runs.specs.Runs.{HasDone, IsMadeBy, IsServedOver, IsUpgradedAs, MayHaveSetTable}
+use Rattle.auction_runs.specs.Runs.{HasAnsweredSome, HasDone, IsMadeBy, IsServedOver, IsUpgradedAs, MayHaveSetTable}
 use Rattle.auction_words.specs.Houses.{IsSetBy}
 use Rattle.auction_words.specs.declared.command_line.HouseWords.{HouseWords}
 use Rattle.device.specs.declared.failure.Failure.{Failure}
@@ -16,8 +16,10 @@ use Rattle.office.specs.declared.lister.Lister.{Lister}
 use Rattle.settle.specs.Zoned.{IsZoneOf}
 use Rattle.settle.specs.declared.zone.Zone.{Zone}
 use Rattle.site.specs.Replies.{IsStep}
+use Rattle.site.specs.Runs.{InTurn}
 use Rattle.site_connections.specs.Turns.{Takes}
 use Rattle.site_connections.specs.declared.connection.Connection.{Connection}
+use Rattle.site_request.specs.declared.asked.Asked.{Asked}
 use Rattle.site_serve.specs.declared.server.ServeFault.{ServeFault}
 use Rattle.site_serve.specs.declared.server.Served.{Served}
 use Rattle.sqlite.specs.Effect.{Database}
@@ -38,9 +40,10 @@ use Rattle.store_files.specs.InOrder.{HoldsTables, shown_house, tables_after}
 use Rattle.store_house.specs.Named.{IsArranged, UpgradesHeld, tables_held}
 use Rattle.store_rows.specs.House.{IsHouse}
 use Rattle.tree_order.specs.declared.renumbered.Renumbered.{Renumbered}
-use Rattle.lives.specs.Lives.{Answers, AreInTurn, Does, EndsAs, FindsTables, HoldHistory, HoldsToldHouse, IsAnswering, IsBegun, IsRunTo, Leaves, MayAnswer, MaySet, Run, Sets, over_disk}
+use Rattle.lives.specs.Exchanges.{TakesAs}
+use Rattle.lives.specs.Lives.{Answers, Does, EndsAs, FindsTables, HoldHistory, HoldsToldHouse, IsAnswering, IsBegun, IsListing, IsRunTo, IsServing, Leaves, MayList, MayServe, MaySet, Run, Sets, over_disk}
 use Rattle.lives.proofs.Lives.{made_holds, was_honest}
-use Rattle.lives.proofs.Turns.{of_orders, of_some}
+use Rattle.lives.proofs.Turns.{orders_in_turn, some_as, turn_of_some}
 
 -- a keep that is as it was was only read
 read_nothing : {K : Type 0} (content : K → Tables) (is_failed : K → Bool) (is_honest : K → Type 0)
@@ -123,43 +126,60 @@ module _ {D : Type 0} {g : Ghosts D} (image left : Image) (name : List ℕ) (fil
       subst (λ t. IsZoneOf t.settings.zone zone) (read.same honest works) kept
 
   -- messages in turn, by the zone that was kept
-  answers_run : (Ends : House (Renumbered (FileStore D g)) → Type 0) (opened begun last : House (Renumbered (FileStore D g)))
-      (zone : Zone)
+  abbrev answers_run : (Ends : House (Renumbered (FileStore D g)) → Type 0) (opened begun last : House (Renumbered (FileStore D g)))
+      (zone : Zone) (asked : List Asked) (replies : List (List ℕ))
       → IsOpened (content over_order) is_failed (IsHonest over_order) (MayLeave over_order)
       name image name opened
       → IsBegun (over_disk g) opened begun
       → (IsHonest over_order begun → IsZoneOf (content over_order begun).settings.zone zone)
-      → AreInTurn (IsStep (content over_order) is_failed (IsHonest over_order) (MayLeave over_order)
-      zone) begun last
+      → InTurn (IsStep (content over_order) is_failed (IsHonest over_order) (MayLeave over_order)
+      zone) asked replies begun last
       → Ends last → IsAnswering g image Ends
-  answers_run Ends opened begun last zone is_opened so kept turn ended = record {
+  answers_run Ends opened begun last zone asked replies is_opened so kept turn ended = record {
     zone = zone;
-    asked = turn.asked;
-    replies = turn.replies;
-    run = run_of Ends zone (Answers turn.asked turn.replies) opened last is_opened (record {
+    asked = asked;
+    replies = replies;
+    run = run_of Ends zone (Answers asked replies) opened last is_opened (record {
       begun = begun;
       so = so;
       after = last;
-      turn = turn.turn;
+      turn = turn;
       read = read_nothing (content over_order) is_failed (IsHonest over_order)
           (MayLeave over_order) last last refl;
     }) ended;
     kept_zone = λ fine.
         let honest = was_honest (content over_order) is_failed (IsHonest over_order)
-        (MayLeave over_order) zone turn.asked turn.replies begun last turn.turn fine in
+        (MayLeave over_order) zone asked replies begun last turn fine in
         zone_of_opened opened begun zone so honest (kept honest);
   }
+
+  -- the orders of lots
+  listing_run : (by : Lister) (Ends : House (Renumbered (FileStore D g)) → Type 0)
+      (opened last : House (Renumbered (FileStore D g)))
+      → IsOpened (content over_order) is_failed (IsHonest over_order) (MayLeave over_order)
+      name image name opened
+      → HasOrderedIn (content over_order) is_failed (IsHonest over_order) (MayLeave over_order) by
+      opened last
+      → Ends last → IsListing g image by Ends
+  listing_run by Ends opened last is_opened ordered ended =
+      let (asked, replies, orders, turn) = orders_in_turn
+      (IsStep (content over_order) is_failed (IsHonest over_order) (MayLeave over_order) ordered.zone)
+      by ordered.ordered.lots ordered.asked last ordered.ordered.orders in
+      record {
+        answering = answers_run Ends opened ordered.asked last ordered.zone asked replies is_opened
+            (inr (ordered.read, ordered.works)) ordered.kept_zone turn ended;
+        lots = ordered.ordered.lots;
+        orders = orders;
+      }
 
   pub imports_are_runs : (by : Lister) → HasDone (IsOpened (content over_order) is_failed
       (IsHonest over_order) (MayLeave over_order) name image name) (IsOrderedOver (content over_order)
       is_failed (IsHonest over_order) (MayLeave over_order) (IsEnded g) (IsLeft g) by) files
-      → EndsAs g left files (MayAnswer g image)
-  imports_are_runs by run = where_ended run.done.last run.done.over (λ Ends ended.
+      → EndsAs g left files (MayList g image by)
+  imports_are_runs by run = where_ended {Is = MayList g image by} run.done.last run.done.over (λ Ends ended.
       elim run.done.ordered [
         | inl read ↦ inl (read_run Ends run.given run.done.last run.begun read ended)
-        | inr ordered ↦ inr (answers_run Ends run.given ordered.asked run.done.last ordered.zone
-            run.begun (inr (ordered.read, ordered.works)) ordered.kept_zone
-            (of_orders _ by ordered.asked run.done.last ordered.ordered) ended)
+        | inr ordered ↦ inr (listing_run by Ends run.given run.done.last run.begun ordered ended)
       ])
 
   pub settings_are_runs : (moment : ℕ) → HasDone (IsOpened (content over_order) is_failed
@@ -176,6 +196,31 @@ module _ {D : Type 0} {g : Ghosts D} (image left : Image) (name : List ℕ) (fil
       ) in
       set)
 
+  -- the messages of connections
+  serving_run : {C R W : Type 0} (input : source.Ghosts R) (output : sink.Ghosts W)
+      (accepts : C → Result (Option (Connection R W)) Failure → C → Type 0)
+      (ends : C → Connection R W → Result Served ServeFault → C → Type 0) (is_at : C → Type 0)
+      (most count : ℕ) (Ends : House (Renumbered (FileStore D g)) → Type 0)
+      (opened last : House (Renumbered (FileStore D g)))
+      → IsOpened (content over_order) is_failed (IsHonest over_order) (MayLeave over_order)
+      name image name opened
+      → HasAnsweredSome (over_disk g) is_at
+      (λ zone. Takes (over_disk g) input output accepts ends zone most) count opened last
+      → Ends last → IsServing g image is_at
+      (λ zone. TakesAs (over_disk g) input output accepts ends zone most) count Ends
+  serving_run input output accepts ends is_at most count Ends opened last is_opened some ended =
+      let (asked, replies, exchanged) = some_as (over_disk g) input output accepts ends some.zone
+      most count (some.came, opened) last some.some in
+      record {
+        answering = answers_run Ends opened opened last some.zone asked replies is_opened (inl refl)
+            some.kept_zone
+            (turn_of_some (over_disk g) input output accepts ends some.zone most count asked replies
+            (some.came, opened) last exchanged) ended;
+        came = some.came;
+        listened = some.listened;
+        exchanged = exchanged;
+      }
+
   pub servings_are_runs : {C R W : Type 0} (input : source.Ghosts R) (output : sink.Ghosts W)
       (accepts : C → Result (Option (Connection R W)) Failure → C → Type 0)
       (ends : C → Connection R W → Result Served ServeFault → C → Type 0) (is_at : C → Type 0)
@@ -183,16 +228,17 @@ module _ {D : Type 0} {g : Ghosts D} (image left : Image) (name : List ℕ) (fil
       → HasDone (IsOpened (content over_order) is_failed (IsHonest over_order) (MayLeave over_order)
       name image name) (IsServedOver (over_disk g) is_at (IsEnded g) (IsLeft g)
       (λ zone. Takes (over_disk g) input output accepts ends zone most) count) files
-      → EndsAs g left files (MayAnswer g image)
+      → EndsAs g left files (MayServe g image is_at
+      (λ zone. TakesAs (over_disk g) input output accepts ends zone most) count)
   servings_are_runs input output accepts ends is_at most count run =
-      where_ended run.done.last run.done.over (λ Ends ended. elim run.done.answered [
+      where_ended {Is = MayServe g image is_at
+      (λ zone. TakesAs (over_disk g) input output accepts ends zone most) count} run.done.last
+      run.done.over (λ Ends ended. elim run.done.answered [
         | inl same ↦ inl (read_run Ends run.given run.done.last run.begun (read_nothing
             (content over_order) is_failed (IsHonest over_order) (MayLeave over_order) run.given
             run.done.last same) ended)
-        | inr some ↦ inr (answers_run Ends run.given run.given run.done.last some.zone run.begun
-            (inl refl) some.kept_zone
-            (of_some (over_disk g) input output accepts ends some.zone most count
-            (some.came, run.given) run.done.last some.some) ended)
+        | inr some ↦ inr (serving_run input output accepts ends is_at most count Ends run.given
+            run.done.last run.begun some ended)
       ])
 
   -- of a keep that could not be ended its tables alone are found

@@ -1,5 +1,6 @@
 -- The lives of a house's files. Start here.
 use Rattle.std.specs.Prelude.{◌≡◌, ◌⊎◌, ℕ, Bool, List, [], ◌∷◌, false, true, length, None}
+use Rattle.std.specs.List.{AllZip}
 use Rattle.steps.specs.Table.{Band}
 use Rattle.auction_runs.specs.Tabled.{MayTable}
 use Rattle.house_laws.specs.Lives.{Life, life_history, lives_history}
@@ -11,6 +12,10 @@ use Rattle.house_rows.specs.declared.settings.Settings.{Settings}
 use Rattle.house_rows.specs.History.{History}
 use Rattle.house_rows.specs.Tables.{Tables, tables_of}
 use Rattle.house_rows.specs.Verdict.{IsHistory, verdict}
+use Rattle.lives.specs.Exchanges.{HasExchanged}
+use Rattle.office.specs.Listings.{IsOrderOf}
+use Rattle.office.specs.declared.lister.Lister.{Lister}
+use Rattle.office.specs.declared.lot.Lot.{Lot}
 use Rattle.settle.specs.Zoned.{IsZoneOf}
 use Rattle.settle.specs.declared.zone.Zone.{Zone}
 use Rattle.site.specs.Replies.{IsStep}
@@ -127,11 +132,37 @@ pub record IsAnswering {D : Type 0} (g : disk.Ghosts D) (image : Image)
   pub kept_zone : IsHonest over_order run.last
       → IsZoneOf (content over_order run.opened).settings.zone zone
 
+-- they are those of connections at that place, which were taken in turn over the keep that was opened
+pub record IsServing {C D : Type 0} (g : disk.Ghosts D) (image : Image) (is_at : C → Type 0)
+    (Takes : Zone → List Asked → List (List ℕ) → C × House (Renumbered (FileStore D g))
+    → C × House (Renumbered (FileStore D g)) → Type 0) (count : ℕ)
+    (Ends : House (Renumbered (FileStore D g)) → Type 0) : Type 0 where
+  pub answering : IsAnswering g image Ends
+  pub came : C
+  pub listened : is_at came
+  pub exchanged : HasExchanged (Takes answering.zone) count answering.asked answering.replies
+      (came, answering.run.opened) answering.run.last
+
 -- some were, or none, which is so by whatever zone
-abbrev pub MayAnswer : {D : Type 0} → (g : disk.Ghosts D) → Image → (House (Renumbered (FileStore D g)) → Type 0)
-    → Type 0
-MayAnswer g image Ends = ((zone : Zone) → IsRunTo g zone image (Answers [] []) Ends)
-    ⊎ IsAnswering g image Ends
+abbrev pub MayServe : {C D : Type 0} → (g : disk.Ghosts D) → Image → (C → Type 0)
+    → (Zone → List Asked → List (List ℕ) → C × House (Renumbered (FileStore D g))
+    → C × House (Renumbered (FileStore D g)) → Type 0) → ℕ
+    → (House (Renumbered (FileStore D g)) → Type 0) → Type 0
+MayServe g image is_at Takes count Ends = ((zone : Zone) → IsRunTo g zone image (Answers [] []) Ends)
+    ⊎ IsServing g image is_at Takes count Ends
+
+-- they are the orders of these lots, in turn
+pub record IsListing {D : Type 0} (g : disk.Ghosts D) (image : Image) (by : Lister)
+    (Ends : House (Renumbered (FileStore D g)) → Type 0) : Type 0 where
+  pub answering : IsAnswering g image Ends
+  pub lots : List Lot
+  pub orders : AllZip (IsOrderOf by) lots answering.asked
+
+-- some were, or none
+abbrev pub MayList : {D : Type 0} → (g : disk.Ghosts D) → Image → Lister
+    → (House (Renumbered (FileStore D g)) → Type 0) → Type 0
+MayList g image by Ends = ((zone : Zone) → IsRunTo g zone image (Answers [] []) Ends)
+    ⊎ IsListing g image by Ends
 
 -- a band table was set, or was not, which is so by whatever zone
 abbrev pub MaySet : {D : Type 0} → (g : disk.Ghosts D) → Image → ℕ → (House (Renumbered (FileStore D g)) → Type 0)

@@ -18,9 +18,10 @@ ghost use Rattle.house_rows.specs.declared.settings.Settings.{Settings};
 ghost use Rattle.house_rows.specs.History.{History};
 ghost use Rattle.house_rows.specs.Tables.{tables_of};
 ghost use Rattle.house_rows.specs.Verdict.{IsHistory};
+ghost use Rattle.lives.specs.Exchanges.{TakesAs};
 ghost use Rattle.lives.specs.Lives.{Answers, AreInTurn, AreLivesOf, AreRuns, AreToldAlike, EndsAs};
 ghost use Rattle.lives.specs.Lives.{FindsHistory, FindsTables, HoldHistory, IsRun, IsRunTo};
-ghost use Rattle.lives.specs.Lives.{IsUnended, LeaveHistories, LeavesLife, MayAnswer, MayFind};
+ghost use Rattle.lives.specs.Lives.{IsUnended, LeaveHistories, LeavesLife, MayFind, MayList, MayServe};
 ghost use Rattle.lives.specs.Lives.{HoldsToldHouse, MaySet, Run, over_disk};
 ghost use Rattle.office.specs.declared.lister.Lister.{Lister};
 ghost use Rattle.settle.specs.declared.zone.Zone.{Zone};
@@ -137,7 +138,7 @@ pub fn connections_are_messages_in_turn<C: Connections, K: Keep>()
 {}
 
 /// What serving leaves of the files, or of the store where its keep could not be ended, is left by a run of
-/// messages, by the kept zone.
+/// messages, by the kept zone: of those that were read of its connections, with the replies to them.
 pub fn servings_are_runs<D: Disk, C: Listen>()
     ensures { (image left : Image) (name : List ℕ) (files : Files D)
         → AreClean D.Disk files.log files.db → outcomes D.Disk files.log files.db left
@@ -147,10 +148,12 @@ pub fn servings_are_runs<D: Disk, C: Listen>()
         (IsServedOver (over_disk D.Disk) (λ came. C.is_at came port count) (IsEnded D.Disk) (IsLeft D.Disk)
         (λ zone. Takes (over_disk D.Disk) C.Input.Source C.Output.Sink C.accepts C.ends zone most)
         count) files
-        → EndsAs D.Disk left files (MayAnswer D.Disk image) }
+        → EndsAs D.Disk left files (MayServe D.Disk image (λ came. C.is_at came port count)
+        (λ zone. TakesAs (over_disk D.Disk) C.Input.Source C.Output.Sink C.accepts C.ends zone most)
+        count) }
 {}
 
-/// What an import leaves is left by a run of the orders of its lots.
+/// What an import leaves is left by a run of the orders of its lots, and of no other message.
 pub fn imports_are_runs<D: Disk>()
     ensures { (image left : Image) (name : List ℕ) (files : Files D)
         → AreClean D.Disk files.log files.db → outcomes D.Disk files.log files.db left
@@ -159,7 +162,7 @@ pub fn imports_are_runs<D: Disk>()
         (MayLeave over_order) name image name)
         (IsOrderedOver (content over_order) is_failed (IsHonest over_order)
         (MayLeave over_order) (IsEnded D.Disk) (IsLeft D.Disk) by) files
-        → EndsAs D.Disk left files (MayAnswer D.Disk image) }
+        → EndsAs D.Disk left files (MayList D.Disk image by) }
 {}
 
 /// What a statement leaves is left by a run of no message.
