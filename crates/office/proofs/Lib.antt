@@ -10,3 +10,4 @@ pub mod OrderBodies
 pub mod OrderRoutes
 pub mod OrderAsks
 pub mod Listed
+pub mod Answered

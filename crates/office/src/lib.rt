@@ -23,7 +23,7 @@ mod zone;
 pub use account::{StatementFault, statement};
 pub use fault::ImportFault;
 pub use imports::{check_member, import};
-pub use laws::orders_ask_for_their_listing;
+pub use laws::{lines_tell_their_answers, orders_ask_for_their_listing};
 pub use lister::Lister;
 pub use tally::Imported;
 pub use zone::check_zone;
