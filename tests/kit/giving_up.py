@@ -1,7 +1,7 @@
 #!/usr/bin/env python3
 """Puts in bodies that give up, and looks whether the tests find them: `giving_up.py [NAME..]`.
 
-A body that always tells want of memory, or that the store failed, is proved under any contract: memory may be refused at any
+A body that always tells that memory ran out, or that the store failed, is proved under any contract: memory may be refused at any
 call, and a contract shows no cause. So is one that tells it by what somebody has sealed, and then a 503 shows that. So only tests
 find them. Each is put into a copy of the checkout and built without proofs, by `rt try`; then a section of the stored run of
 `test_site` or `test_store` has to come out otherwise, or tests/office/office.py has to fail on the program, or

@@ -95,7 +95,7 @@ class Answer:
 
 
 def gives_up(text):
-    """Whether an answer tells want of memory, or that the store failed."""
+    """Whether an answer tells that memory ran out, or that the store failed."""
     return text.startswith((b"HTTP/1.1 503 ", b"HTTP/1.1 500 "))
 
 

@@ -60,7 +60,7 @@ def refused_line(result, lines):
 
 
 def is_undone(result, lines):
-    """Whether the run ends for want of memory, after the lines that came first."""
+    """Whether the run ends out of memory, after the lines that came first."""
     status, answers, fault = ended(result)
     found = answers.splitlines()
     return status == 1 and fault in UNDONE and found == lines[:len(found)]

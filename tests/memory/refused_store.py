@@ -23,12 +23,12 @@ COMMANDS = [line for line in SCRIPT if not line.startswith("?") and line not in 
 QUESTIONS = [line for line in SCRIPT if line.startswith("?")]
 # A house's file, and its log, which belongs to it.
 FILES = ("", "-wal")
-# What a run tells that wants memory: for the script itself, or for anything else.
+# What a run tells that is out of memory: for the script itself, or for anything else.
 WANTED = ("the script can't be read", "memory is wanted")
 
 
 def answers(program, words, lines, **environment):
-    """How a run ends that plays lines: its status, and its answers. Status 1 is only for want of memory."""
+    """How a run ends that plays lines: its status, and its answers. Status 1 is only for memory that ran out."""
     result = run([program, *words], "\n".join(lines).encode(), **environment)
     fault = result.stderr.decode().strip().partition(": ")[2]
     status = "another fault" if result.returncode == 1 and fault not in WANTED else result.returncode

@@ -16,7 +16,7 @@ abbrev pub there_text : List ℕ
 there_text = codes "HTTP/1.1 409 Conflict\r\ncontent-type: application/json\r\n"
     ++ codes "content-length: 33\r\n\r\n{\"error\":\"LotExists\",\"number\":13}"
 
--- neither of both, and no want of memory or failure
+-- neither of both, nor memory that ran out, nor a failure
 pub record IsRefusal (reply : List ℕ) : Type 0 where
   pub not_created : ¬ (IsCreated reply)
   pub not_there : reply ≢ there_text

@@ -39,7 +39,7 @@ pub not_both : (b : Bool) → b ≡ true → b ≡ false → ⊥
 not_both true is not = cc
 not_both false is not = cc
 
--- want of memory isn't reported as a failure
+-- running out of memory isn't reported as a failure
 pub memory_goes : (closes : Bool) → is_failure (fault_text Memory closes) ≡ false
 unfolding fault_text digits_in response_bytes head_start status_line
 memory_goes closes = refl

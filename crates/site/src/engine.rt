@@ -32,7 +32,7 @@ use std::alloc::Global;
 use std::borrow::CowSlice;
 use wire::{Request, broken_frame, whole};
 
-/// The bytes of a reply. Those that report want of memory or a failure take none.
+/// The bytes of a reply. Those that report that memory ran out or a failure take none.
 pub type Reply = CowSlice<'static, u8>;
 
 /// The engine over a keep.

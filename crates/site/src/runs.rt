@@ -26,7 +26,7 @@ pub enum RunFault {
 }
 
 impl<K: Keep + Drop> Site<K> {
-    /// Answers each message in turn. Where a run of a new house met neither want of memory nor a
+    /// Answers each message in turn. Where a run of a new house neither ran out of memory nor met a
     /// failure, a member's replies are those of any run that is a twin of it for the member; and
     /// those in which the last leader's covered bid is raised are such runs for everybody else. Of
     /// a house that lives on they are those of any run that is a twin of it from alike histories on.

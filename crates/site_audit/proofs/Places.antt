@@ -25,7 +25,7 @@ pub not_both : (b : Bool) → b ≡ true → b ≡ false → ⊥
 not_both true is other = cc
 not_both false is other = cc
 
--- want of memory isn't reported as a failure
+-- running out of memory isn't reported as a failure
 memory_goes : (closes : Bool) → is_failure (fault_text keep_fault.Memory closes) ≡ false
 unfolding fault_text digits_in response_bytes head_start status_line
 memory_goes closes = refl

@@ -1,7 +1,7 @@
 //! A list of messages, played over a new house.
 //!
-//! Where a call answers want of memory it is asked once more: it has to have changed nothing. A
-//! fault that may not come is one of the keep, also where it is want of memory. What owns a house
+//! Where a call answers that memory ran out, it is asked once more: it has to have changed nothing. A
+//! fault that may not come is one of the keep, also where it is `Memory`. What owns a house
 //! has one end: each end more would drop it once more.
 use crate::keeps::{Connects, Databases, InMemory, Lists, site_over};
 use crate::list::Stage;
@@ -36,7 +36,7 @@ pub(crate) fn tell(report: &mut Vec<u8>, text: &[u8]) -> Result<(), AllocError> 
     Ok(())
 }
 
-// Reports a want of memory. Another fault is one of the keep.
+// Reports that memory ran out. Another fault is one of the keep.
 fn tell_refusal(report: &mut Vec<u8>, fault: KeepFault, refusal: &[u8]) -> Result<(), ScriptFault> {
     match fault {
         KeepFault::Memory => Ok(tell(report, refusal)?),
@@ -44,7 +44,7 @@ fn tell_refusal(report: &mut Vec<u8>, fault: KeepFault, refusal: &[u8]) -> Resul
     }
 }
 
-// The site over a second house, where a first had a fault, which has to be want of memory.
+// The site over a second house, where a first had a fault, which has to be `Memory`.
 fn made_again<K: Keep + Drop, M: Makes<K>>(
     alloc: Global,
     makes: &M,
