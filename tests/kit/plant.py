@@ -6,8 +6,9 @@ the result or a field. It runs here over each of named crates, or of all but tho
 as it takes. What it found is kept in out/planted by a sum of the crate's text, so that a run begins with the first crate that has
 nothing kept. A crate is run anew if a run was broken off inside it, or if one of its checks ran out of time: rt gives each four
 minutes, which may be too few on a busy machine. With --kept nothing is run. The page has a table of the crates of which something
-is kept, and each body that was proved, with the reason that proved.tsv gives for it. It needs the kit, with its `rt` on the path.
-The last line is 'N crates, M bodies proved, K of them with no reason'.
+is kept; each body that was proved, with the reason that proved.tsv gives for it; and each function of which no body was judged, with
+the edits of must-fail/ and wrong/ that change it. It needs the kit, with its `rt` on the path. The last line is 'N crates, M bodies
+proved, K of them with no reason'.
 
 Promise: none
 """
@@ -19,7 +20,8 @@ import sys
 from lib.crates import dependencies
 from lib.places import ROOT
 from lib.proved_bodies import cell, reasons_given
-from lib.wrong_bodies import CRATES, copied, kit, sum_of
+from lib.wrong_bodies import CRATES, Unfit, copied, edited, edits_of, functions_of, kit, owner, sum_of
+from lib.wrong_bodies import rows_of as rows_of_edit
 
 KEPT, PAGE = ROOT / "out" / "planted", ROOT / "docs" / "PLANTED.md"
 LEFT_OUT = re.compile(r"test_|bench_")
@@ -49,6 +51,12 @@ where the unchanged call isn't proved. Only crates that were run on today's text
 
 | Crate | Functions | Tried | Refused | Proved | Same | Not judged | Why not |
 |---|---|---|---|---|---|---|---|
+"""
+
+UNJUDGED = """## Not judged
+
+Of these functions no planted body was judged. Beside each stand the wrong bodies that people wrote
+for it, in `must-fail/` and `wrong/` of its crate.
 """
 
 
@@ -121,6 +129,55 @@ def proved_in(found):
             for kind, function, text, _ in rows_of(said) if kind == "proves"]
 
 
+def is_law(crate, named):
+    """Whether a function, by its name, has no code."""
+    file = named.split(" ")[0]
+    text = (CRATES / crate / file).read_text()
+    return not any(is_named(function, named) for function in functions_of(file, text))
+
+
+def unjudged_in(crate, said):
+    """The functions of a crate of which no planted body was judged, and why not. Laws have no body."""
+    by = {}
+    for kind, function, _, why in rows_of(said):
+        by.setdefault(function.removesuffix("()"), []).append((kind, function, "", why))
+    for function, rows in by.items():
+        kinds = {kind for kind, *_ in rows}
+        if not kinds & {"refused", "proves", "same", "no-ensures"} and not is_law(crate, function):
+            given = [row for row in rows if row[0] == "not-source"]
+            yield function, why_not(rows) or ("none fits its type" if given or kinds == {"untested"} else "none was made")
+
+
+def edits_by_function(crate):
+    """By function the edits of a crate that change it, or that put a wrong one of its own beside it."""
+    found = collections.defaultdict(list)
+    for path in edits_of(crate):
+        rows = tuple(rows_of_edit(path.read_text()))
+        try:
+            body = edited(crate, rows, path.stem)
+        except Unfit:
+            continue
+        beside = [function for file, old, _ in rows for function in functions_of(file, (CRATES / crate / file).read_text())
+                  if file.startswith("src/") and re.search(rf"\bfn {function.name}\b", old)]
+        for function in dict.fromkeys([*body.functions, *beside]):
+            found[function].append(path.stem)
+    return found
+
+
+def is_named(function, named):
+    """Whether what rt plant names is a function: its file, and the words of its block."""
+    file, _, name = named.partition(" ")
+    words = re.findall(r"\w+", name)
+    block = [word for word in owner(function.block) if word] if function.block else []
+    return function.file == file and function.name == words[-1] and set(block) <= set(words)
+
+
+def hand_made(crate, named):
+    """The edits of a crate that change a function, by its name."""
+    edits = [edit for function, edits in edits_by_function(crate).items() if is_named(function, named) for edit in edits]
+    return list(dict.fromkeys(edits))
+
+
 def page(found):
     """The page of what was said of each crate."""
     lines = [HEAD.format(kit=kit().strip().split("\n")[0]) + "\n".join(row(crate, said) for crate, said in found.items())]
@@ -129,6 +186,10 @@ def page(found):
         lines.append("\n## Proved\n\n| Crate | Function | Body | Why no clause refuses it |\n|---|---|---|---|")
         lines += [f"| {crate} | {cell(function)} | {cell(text)} | {reasons.get((crate, function, text), '')} |"
                   for crate, function, text in proved]
+    rows = [(crate, function, why, hand_made(crate, function)) for crate, said in found.items() for function, why in unjudged_in(crate, said)]
+    if rows:
+        lines.append(f"\n{UNJUDGED}\n| Crate | Function | Why not | Edits |\n|---|---|---|---|")
+        lines += [f"| {crate} | {cell(function)} | {why} | {', '.join(map(cell, edits)) or 'none'} |" for crate, function, why, edits in rows]
     return "\n".join(lines) + "\n"
 
 
