@@ -10,6 +10,7 @@ use Rattle.house_rows.specs.Items.{floor_of, items_shown, shown_at}
 use Rattle.house_rows.specs.Tables.{ItemRow, Tables, bands_for, tables_of}
 use Rattle.house_rows.specs.Verdict.{Rule, by_terms, of_item}
 use Rattle.house_rows.proofs.Shown.{shown_by_row, shown_row}
+use Rattle.house.specs.ByTables.{row_shown}
 use Rattle.house.specs.Decided.{of_terms}
 
 -- rules that ask for an item's floor and its terms
@@ -32,3 +33,11 @@ floors_shown settings h i rules =
 pub terms_shown : (settings : Settings) (h : History) (i : ℕ) (rules : Terms → List Rule)
     → of_item (shown_at (items_shown settings h) i) (by_terms rules) ≡ of_terms (terms_at (tables_of settings h) i) rules
 terms_shown settings h i rules = floors_shown settings h i (λ floor. rules)
+
+-- and by tables of no history
+pub rows_shown : (t : Tables) (i : ℕ) (rules : Option ℕ → Terms → List Rule)
+    → of_item (option_map (row_shown t) (row_at t i)) (by_floor rules) ≡ of_terms (terms_at t i) (at_floor t rules)
+rows_shown t i rules = by_row (row_at t i) where
+  by_row : (o : Option ItemRow) → of_item (option_map (row_shown t) o) (by_floor rules) ≡ of_terms (option_map (λ (row : ItemRow). row.item.terms) o) (at_floor t rules)
+  by_row None = refl
+  by_row (Some row) = refl

@@ -7,6 +7,7 @@ pub mod OnItems
 pub mod ByTables
 pub mod ListedTerms
 pub mod Rows
+pub mod Reported
 pub mod Taken
 pub mod Decides
 pub mod Watched

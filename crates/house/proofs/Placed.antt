@@ -1,15 +1,16 @@
 -- Bids: the verdict by the tables, and the tables after them.
-use Rattle.std.proofs.Common.{◌≡◌, ℕ, ◌+◌, ◌≤◌, List, [], ◌∷◌, ◌++◌, map, length, Bool, true, false, not, refl, ◌∙◌, ap, sym, arith, inl, inr, Option, Some, None, subst}
-use Rattle.std.specs.Prelude.{◌==◌, ◌&&◌, nat_le, nat_lt, option_map, unwrap_or}
+use Rattle.std.proofs.Common.{◌≡◌, ℕ, ◌+◌, ◌≤◌, List, [], ◌∷◌, ◌++◌, map, length, Bool, true, false, not, refl, ◌∙◌, ap, sym, arith, inl, inr, ◌⊎◌, Option, Some, None, subst}
+use Rattle.std.specs.Prelude.{◌==◌, ◌&&◌, nat_le, nat_lt, option_and_then, option_map, unwrap_or}
 use Rattle.std.specs.List.{AllByRecursion, list_any}
 use Rattle.std.proofs.lemmas.Bool.Decides.{nat_tests}
 use Rattle.std.proofs.lemmas.List.{append-nil, length-append}
-use Rattle.proxy.specs.Bids.{greatest, is_leader, one_more, refusal, standing_of}
+use Rattle.proxy.specs.Bids.{greatest, greatest_if_any, is_leader, leader, leads, maxima, one_more, price, refusal, standing_of, top}
 use Rattle.proxy.specs.Opening.{Opening}
 use Rattle.proxy.specs.Kept.{Kept, opening_of}
 use Rattle.proxy.specs.Rules.{first_failing}
 use Rattle.proxy.specs.declared.bid.Bid as bid
 use Rattle.proxy.specs.declared.bid.BidRefusal.TheVariants as no_bid
+use Rattle.proxy.proofs.Leads.{leader_greatest, or_zero}
 use Rattle.house_rows.specs.declared.change.Change.TheVariants as change
 use Rattle.house_rows.specs.declared.command.Command.{Command}
 use Rattle.house_rows.specs.declared.command.Command.TheVariants.{Register, AddCategory, List as Listing_command, Bid, Buy, Close, Settle, Watch, Unwatch, Ask, Answer, Feedback, SetBands}
@@ -25,7 +26,7 @@ use Rattle.house_rows.specs.Changed.{changed, with_standing}
 use Rattle.house_rows.specs.Found.{standing_at, terms_at}
 use Rattle.house_rows.specs.History.{History, clock}
 use Rattle.house_rows.specs.Items.{closings, floor_of, is_bought, is_open, is_settled, is_taken, leader_of, purchase_of, shown_now, state_of, terms_now, close_sells, met_of}
-use Rattle.house_rows.specs.Keeping.{ItemRowFits}
+use Rattle.house_rows.specs.Keeping.{IsBought, IsByBids, ItemRowFits}
 use Rattle.house_rows.specs.Limits.{most_bids, most_cents}
 use Rattle.house_rows.specs.Listings.{Listing, bands_by, listed_opening, listing_at, listings}
 use Rattle.house_rows.specs.People.{members}
@@ -42,10 +43,13 @@ use Rattle.house_rows.proofs.Passed.{shown_is}
 use Rattle.house_rows.proofs.Shown.{row_found}
 use Rattle.house.proofs.ByTables.{caller_fits, sound_here, standing_same}
 use Rattle.house.proofs.Found.{by_test, first_none, first_some}
+use Rattle.house.proofs.Items.{at_floor, rows_shown}
 use Rattle.house.proofs.OnItems.{item_judged, item_refused, row_there}
-use Rattle.house.proofs.Rows.{apart_from}
+use Rattle.house.proofs.Rows.{apart_from, own_reported}
 use Rattle.house.proofs.Taken.{found_fits, item_at_fits}
+use Rattle.house.specs.ByTables.{rules_by, top_at}
 use Rattle.house.specs.Decided.{IsAccepted, of_terms}
+use Rattle.house.specs.Judged.{item_rules}
 use Rattle.house.specs.Refused.{as_refusal}
 use Rattle.house_rows.specs.Taken.{ItemFitsAt}
 
@@ -392,3 +396,121 @@ bid_accepts t settings given h moment caller item maximum terms kept after membe
     } in
     renamed settings h moment caller l.item item terms.item maximum amount member (length bids + 1) count (standing_of (bands_by settings l) (listed_opening l) (one_more bids caller maximum)) after
     f.numbered_so named same equal counted answer.1 whole
+
+-- By the tables alone, whatever history they are of. The leader's own greatest maximum is the top that its row keeps.
+leader_is : (o : Option ℕ) (m : ℕ) → is_leader o m ≡ true → o ≡ Some m
+leader_is None m led = cc
+leader_is (Some l) m led = let e : l ≡ m = grind (arith, nat_tests, led) in ap Some e
+
+own_top : (bids : List bid.Bid) (caller : ℕ) → leads bids caller ≡ true → greatest bids caller ≡ unwrap_or (greatest_if_any (maxima bids)) 0
+unfolding top
+own_top bids caller led = leader_greatest bids caller (leader_is (leader bids) caller led) ∙ sym (or_zero bids)
+
+neither : (b x y : Bool) → b ≡ false → (b && x) ≡ (b && y)
+neither b x y e = rw e refl
+
+raises_as : (bids : List bid.Bid) (caller maximum : ℕ)
+    → (leads bids caller && nat_le maximum (unwrap_or (greatest_if_any (maxima bids)) 0)) ≡ (leads bids caller && nat_le maximum (greatest bids caller))
+raises_as bids caller maximum =
+    elim (by_test (leads bids caller)) [
+      | inl led ↦ ap (λ (n : ℕ). leads bids caller && nat_le maximum n) (sym (own_top bids caller led))
+      | inr other ↦ neither (leads bids caller) (nat_le maximum (unwrap_or (greatest_if_any (maxima bids)) 0)) (nat_le maximum (greatest bids caller)) other
+    ]
+
+-- an open item wasn't bought, so it shows its bids
+shows_bids : (row : ItemRow) → IsByBids row ⊎ IsBought row → row.item.terms.state ≡ Open → IsByBids row
+shows_bids row report opened =
+    elim report [
+      | inl shown ↦ shown
+      | inr bought ↦ absurd (let e : false ≡ true = rw opened at (bought.sold) in cc)
+    ]
+
+-- the later rules by what is kept of the bids are those of the bids
+later_as : (table : List (ℕ × ℕ)) (opening : Opening) (bids : List bid.Bid) (caller maximum : ℕ) (terms : Terms) (highest : Option ℕ) → terms.state ≡ Open
+    → terms.start ≡ opening.start → terms.leader ≡ leader bids → terms.price ≡ price table opening bids → terms.count ≡ length bids → highest ≡ greatest_if_any (maxima bids)
+    → first_failing (later_rules caller maximum (unwrap_or highest 0) (floor_of table terms) terms) ≡ option_map as_refusal (refusal table opening bids caller maximum)
+later_as table opening bids caller maximum terms highest opened start led cost count top_kept =
+    rw (opened, start, led, cost, count, top_kept) (rw (floor_is table opening bids, raises_as bids caller maximum) (as_by_bids _ _ _ _))
+
+-- the rules of a bid, by the item's terms
+rules_are : (t : Tables) (moment caller item maximum : ℕ)
+    → first_failing (item_rules t moment caller false item (at_floor t (all_rules moment caller maximum (top_at t item)))) ≡ first_failing (rules_by t moment caller (Bid item maximum))
+rules_are t moment caller item maximum =
+    ap (λ (rules : List Rule). first_failing (common_rules t.clock (length t.members) moment caller false ++ rules))
+    (sym (rows_shown t item (all_rules moment caller maximum (top_at t item))))
+
+-- what is reported before the item's rules are asked
+pub unknown_by : (t : Tables) (moment caller item maximum : ℕ) (report : Refusal)
+    → ((rules : Terms → List Rule) → Some report ≡ first_failing (common_rules t.clock (length t.members) moment caller false ++ of_terms (terms_at t item) rules))
+    → Some report ≡ first_failing (rules_by t moment caller (Bid item maximum))
+unknown_by t moment caller item maximum report so =
+    so (at_floor t (all_rules moment caller maximum (top_at t item))) ∙ rules_are t moment caller item maximum
+
+-- and by them
+reported_by : (t : Tables) (moment caller item maximum : ℕ) (terms : Terms) (o : Option Refusal)
+    → terms_at t item ≡ Some terms → None ≡ first_failing (common_rules t.clock (length t.members) moment caller false)
+    → o ≡ first_failing (first_rules moment caller maximum terms ++ later_rules caller maximum (top_at t item) (floor_of (bands_for t terms.item) terms) terms)
+    → o ≡ first_failing (rules_by t moment caller (Bid item maximum))
+reported_by t moment caller item maximum terms o found common is =
+    sym (own_reported t moment caller false item terms (at_floor t (all_rules moment caller maximum (top_at t item))) o (record { passed = sym common; found = found }) is)
+    ∙ rules_are t moment caller item maximum
+
+-- what is reported before the item's bids are asked
+pub unfit_by : (t : Tables) (moment caller item maximum : ℕ) (terms : Terms) (report : Refusal)
+    → terms_at t item ≡ Some terms → None ≡ first_failing (common_rules t.clock (length t.members) moment caller false)
+    → Some report ≡ first_failing (first_rules moment caller maximum terms) → Some report ≡ first_failing (rules_by t moment caller (Bid item maximum))
+unfit_by t moment caller item maximum terms report found common so =
+    reported_by t moment caller item maximum terms (Some report) found common
+    (sym (first_some (first_rules moment caller maximum terms) (later_rules caller maximum (top_at t item) (floor_of (bands_for t terms.item) terms) terms) report (sym so)))
+
+-- what is reported of any bids that give the standing, of those of the row
+reported_as : (given bands : List (ℕ × ℕ)) (kept : Kept) (opening : Opening) (bids : List bid.Bid) (member amount caller maximum : ℕ) (o : Option Refusal)
+    → given ≡ bands → kept ≡ standing_of bands opening bids → member ≡ caller → amount ≡ maximum
+    → ((bids : List bid.Bid) → kept ≡ standing_of given (opening_of kept) bids → o ≡ option_map as_refusal (refusal given (opening_of kept) bids member amount))
+    → o ≡ option_map as_refusal (refusal bands opening bids caller maximum)
+reported_as given bands kept opening bids member amount caller maximum o e is_consistent same equal so = (rw (e, same, equal, is_consistent) at so) bids refl
+
+-- what the item's bids report
+pub judged_by : (t : Tables) (given : List (ℕ × ℕ)) (moment caller item maximum : ℕ) (terms : Terms) (kept : Kept) (member amount : ℕ) (o : Option Refusal) → ItemFitsAt item t
+    → terms_at t item ≡ Some terms → None ≡ first_failing (common_rules t.clock (length t.members) moment caller false) → None ≡ first_failing (first_rules moment caller maximum terms)
+    → standing_at t item ≡ Some kept → given ≡ bands_for t item → member ≡ caller → amount ≡ maximum
+    → ((bids : List bid.Bid) → kept ≡ standing_of given (opening_of kept) bids → o ≡ option_map as_refusal (refusal given (opening_of kept) bids member amount))
+    → o ≡ first_failing (rules_by t moment caller (Bid item maximum))
+judged_by t given moment caller item maximum terms kept member amount o rows found common first is_consistent bands same equal so =
+    let row = row_there t item terms found in
+    let opening : Opening = row_opening row.row in
+    let table : List (ℕ × ℕ) = bands_for t item in
+    let fits : ItemRowFits table row.row = found_fits t item row.row rows row.there in
+    let bids : List bid.Bid = fits.bids in
+    let kept_is : kept ≡ standing_of table opening bids = standing_same t item row.row kept row.there is_consistent ∙ fits.is_consistent in
+    let pass = first_passed (terms.seller == caller) (is_open terms.state) (nat_le terms.end moment) (nat_lt most_cents maximum) (sym first) in
+    let opened : terms.state ≡ Open = open_is terms.state pass.is_open in
+    let open_row : row.row.item.terms.state ≡ Open = ap (λ (x : Terms). x.state) row.same ∙ opened in
+    let shown : IsByBids row.row = shows_bids row.row fits.report open_row in
+    let start : terms.start ≡ opening.start = sym (ap (λ (x : Terms). x.start) row.same) in
+    let led : terms.leader ≡ leader bids = sym (ap (λ (x : Terms). x.leader) row.same) ∙ shown.leader ∙ ap (λ (k : Kept). k.leader) fits.is_consistent in
+    let cost : terms.price ≡ price table opening bids = sym (ap (λ (x : Terms). x.price) row.same) ∙ shown.price ∙ ap (λ (k : Kept). k.price) fits.is_consistent in
+    let count : terms.count ≡ length bids = sym (ap (λ (x : Terms). x.count) row.same) ∙ fits.count in
+    let highest : kept.top ≡ greatest_if_any (maxima bids) = ap (λ (k : Kept). k.top) kept_is in
+    let own : top_at t item ≡ unwrap_or kept.top 0 = ap (λ (k : Option Kept). unwrap_or (option_and_then (λ (x : Kept). x.top) k) 0) is_consistent in
+    let least : floor_of (bands_for t terms.item) terms ≡ floor_of table terms = ap (λ (i : ℕ). floor_of (bands_for t i) terms) row.numbered in
+    let later : first_failing (later_rules caller maximum (top_at t item) (floor_of (bands_for t terms.item) terms) terms) ≡ option_map as_refusal (refusal table opening bids caller maximum) =
+    ap (λ (n : ℕ). first_failing (later_rules caller maximum n (floor_of (bands_for t terms.item) terms) terms)) own
+    ∙ ap (λ (floor : Option ℕ). first_failing (later_rules caller maximum (unwrap_or kept.top 0) floor terms)) least
+    ∙ later_as table opening bids caller maximum terms kept.top opened start led cost count highest in
+    let answer : o ≡ option_map as_refusal (refusal table opening bids caller maximum) =
+    reported_as given table kept opening bids member amount caller maximum o bands kept_is same equal so in
+    reported_by t moment caller item maximum terms o found common
+    (answer ∙ sym later
+    ∙ sym (first_none (first_rules moment caller maximum terms) (later_rules caller maximum (top_at t item) (floor_of (bands_for t terms.item) terms) terms) (sym first)))
+
+-- and none where they take it
+pub passed_by : (t : Tables) (given : List (ℕ × ℕ)) (moment caller item maximum : ℕ) (terms : Terms) (kept after : Kept) (member amount : ℕ) → ItemFitsAt item t
+    → terms_at t item ≡ Some terms → None ≡ first_failing (common_rules t.clock (length t.members) moment caller false) → None ≡ first_failing (first_rules moment caller maximum terms)
+    → standing_at t item ≡ Some kept → given ≡ bands_for t item → member ≡ caller → amount ≡ maximum
+    → ((bids : List bid.Bid) → kept ≡ standing_of given (opening_of kept) bids
+    → (refusal given (opening_of kept) bids member amount ≡ None) × (after ≡ standing_of given (opening_of kept) (one_more bids member amount)))
+    → None ≡ first_failing (rules_by t moment caller (Bid item maximum))
+passed_by t given moment caller item maximum terms kept after member amount rows found common first is_consistent bands same equal so =
+    judged_by t given moment caller item maximum terms kept member amount None rows found common first is_consistent bands same equal
+    (λ bids is. sym (ap (option_map as_refusal) (so bids is).0))

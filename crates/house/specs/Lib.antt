@@ -6,4 +6,5 @@ pub mod Offered
 pub mod Waiting
 pub mod Filled
 pub mod Taken
+pub mod ByTables
 pub mod Decides

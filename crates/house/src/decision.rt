@@ -16,7 +16,9 @@ use crate::watchlist::watch;
 use house_rows::{Change, Command, Keep, KeepFault, Refusal};
 
 /// Decides on a command: the change that it makes, or why it is refused. Nothing is changed yet, and
-/// the change fits the tables wherever the rows do that it takes.
+/// the change fits the tables wherever the rows do that it takes. Where the rows
+/// fit that deciding takes, a refusal is what the first rule that fails by the tables says, even if
+/// no list of commands makes them.
 ///
 /// `moment` is in whole seconds since 1970-01-01T00:00:00Z, and `caller` 0 is the house.
 pub fn decide<'c, K: Keep>(

@@ -2,10 +2,11 @@
 //! change that leads to the tables of the history with it.
 //!
 //! Promised of any keep and any history whose tables it keeps, while nothing is changed here; and of
-//! any sound tables, with a history or without, that the change is the command's own and fits them.
-//! Read `specs/Decides.antt` first, with `Decided` and `Own` beside it, then `decision`, whose `decide`
-//! is the call that matters, and `targets`, which has the rules that every command begins with, and
-//! finds the item that a command names.
+//! any sound tables, with a history or without, that the verdict is that of the rules by the tables,
+//! and that the change is the command's own and fits them.
+//! Read `specs/Decides.antt` first, with `Decided`, `ByTables` and `Own` beside it, then `decision`,
+//! whose `decide` is the call that matters, and `targets`, which has the rules that every command
+//! begins with, and finds the item that a command names.
 #![tactic(auto)]
 
 mod answers;

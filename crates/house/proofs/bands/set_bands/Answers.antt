@@ -6,11 +6,13 @@ use Rattle.house.proofs.bands.set_bands.Goals as goal
 pub returns-in-Some : goal.returns-in-Some
 returns-in-Some g c = refuses c.in_ok-refusal.ensures.faults c.in_ok-refusal.ensures.read (λ honest settings h is e.
     table_refusal (g.K.Keep.content c.args.keep.now) settings h c.args.moment c.args.caller c.args.bands.now c.in-Some.refusal e (sym c.in-Some.is ∙ c.in_ok-refusal.ensures.value honest))
+    (λ honest rows. sym c.in-Some.is ∙ c.in_ok-refusal.ensures.value honest)
 
 pub returns-in-None : goal.returns-in-None
 returns-in-None g c = accepts c.in_ok-refusal.ensures.faults c.in_ok-refusal.ensures.read
     (λ honest settings h is e.
     table_accepts (g.K.Keep.content c.args.keep.now) settings h c.args.moment c.args.caller c.args.bands.now c.as_slice.result c.as_slice.ensures e (sym c.in-None.is ∙ c.in_ok-refusal.ensures.value honest))
+    (λ honest rows. sym c.in-None.is ∙ c.in_ok-refusal.ensures.value honest)
     (λ honest rows change_rows.
     table_fits (g.K.Keep.content c.args.keep.now) c.args.moment c.args.caller c.args.bands.now c.as_slice.result c.as_slice.ensures (sym c.in-None.is ∙ c.in_ok-refusal.ensures.value honest))
     (search rules)
