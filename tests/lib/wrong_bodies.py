@@ -225,6 +225,41 @@ def sum_of(crate):
     return total.hexdigest()
 
 
+@functools.cache
+def kit_folder():
+    """The folder of the kit, where its first page lies."""
+    said = subprocess.run(["rt", "doc"], capture_output=True, text=True, check=True).stdout
+    return pathlib.Path(said.strip()).parent
+
+
+def are_built(crates):
+    """Whether the library of each of these crates, the lowest first, is newer than its text and the texts before it."""
+    newest = 0.0
+    for name in crates:
+        built = CRATES / name / "out" / "rlib" / "stamp"
+        texts = [path for part in PARTS for path in (CRATES / name / part).rglob("*") if path.is_file()]
+        newest = max([newest, *(path.stat().st_mtime for path in texts)])
+        if not built.exists() or built.stat().st_mtime < newest:
+            return False
+    return True
+
+
+def prover(crate):
+    """The call of the prover that `rt check` makes in a crate's folder. rt first sums up what lies below, anew along each way
+    down to it, which takes minutes in a high crate, so where all libraries are there it is passed by."""
+    folder, below = kit_folder(), dependencies(ROOT)[crate]
+    line = re.search(rf"^{crate}:(.*)$", (ROOT / "crates.txt").read_text(), re.M)
+    root = "src/main.rt" if (CRATES / crate / "src" / "main.rt").exists() else "src/lib.rt"
+    words = [str(folder / "bin" / "rattle"), "check", "--crate-name", crate, root]
+    for name in [*line[1].split(), "std"]:
+        library = f"../{name}/out/rlib" if name in below else f"{folder}/rlibs"
+        words += ["--extern", f"{name}={library}/{name}.rlib"]
+    for library in [f"{folder}/rlibs", *(f"../{name}/out/rlib" for name in below)]:
+        words += ["-L", f"dependency={library}"]
+    return [*words, "--antt-project", f"{folder}/rattle/logic/antt-project.json", "--logic-built", f"{folder}/logic_built",
+            "--links", f"{crate}=", "--incremental", "out/incremental", "--progress"]
+
+
 def key(body):
     return hashlib.sha256(repr((sum_of(body.crate), body.texts)).encode()).hexdigest()[:32]
 
@@ -278,6 +313,8 @@ class Copy:
         for begun in [CRATES / crate / "out" / "incremental", KEPT / "work" / crate]:
             if begun.is_dir() and not self.work().exists():
                 shutil.copytree(begun, self.work(), copy_function=linked)
+        self.work().mkdir(parents=True, exist_ok=True)
+        self.command = prover(crate) if are_built(dependencies(ROOT)[crate]) else ["rt", "check"]
 
     def work(self):
         """What a check proves, with which the next one begins."""
@@ -297,7 +334,7 @@ class Copy:
                 (self.folder / file).write_text(text)
             while True:
                 names = list(dict.fromkeys(name for one in asked for name in self.symbols.get(one, [one])))
-                said = self.run(["rt", "check", "--jobs", "1", *(word for name in names for word in ("--only", name))])
+                said = self.run([*self.command, "--jobs", "1", *(word for name in names for word in ("--only", name))])
                 known = dict(self.symbols)
                 self.learn(said, blocks)
                 if self.symbols == known:
