@@ -1,15 +1,15 @@
 #!/usr/bin/env python3
 """Puts small wrong edits at random lines, and says what refuses them: `mutants.py [--kept] SEED COUNT [NAME..]`.
 
-A seed draws lines of the bodies of all crates but those of tests and benches, or of named ones, so that each line is as likely as
-another, and one of the edits that fit it: a comparison turned, one more or less, a call left out, arguments swapped, a branch taken
-twice, another constant, a return before the line, `||` for `&&`, a `!` dropped. Each is checked as reasons.py checks an edit, with
-the same classes and the same folder of what is kept; one that doesn't compile is drawn again. Those that are refused only because
-answers of the proof no longer fit count apart: they say nothing of the contract. One that is PROVED is printed, with the reason
-that proved.tsv gives for it, or as a line of that file with none: it means the same as before, or a clause is missing. With --kept
-nothing is tried, and what is kept is counted. docs/MUTANTS.md gets the mutants of all crates by what they came to, and is left as it
-was where some crates are named. It needs the kit, with its `rt` on the path. The last line is 'N mutants, M proved, K of them with no
-reason'.
+A seed draws lines of the bodies of all crates but those of tests, house_script among them, and benches, or of named crates, so that
+each line is as likely as another, and one of the edits that fit it: a comparison turned, one more or less, a call left out, arguments
+swapped, a branch taken twice, another constant, a return before the line, `||` for `&&`, a `!` dropped. Each is checked as reasons.py
+checks an edit, with the same classes and the same folder of what is kept; one that doesn't compile is drawn again. Those that are
+refused only because answers of the proof no longer fit count apart: they say nothing of the contract. One that is PROVED is printed,
+with the reason that proved.tsv gives for it, or as a line of that file with none: it means the same as before, or a clause is
+missing. With --kept nothing is tried, and what is kept is counted. docs/MUTANTS.md gets the mutants of all crates by what they came
+to, and is left as it was where some crates are named. It needs the kit, with its `rt` on the path. The last line is 'N mutants, M
+proved, K of them with no reason'.
 
 Promise: none
 """
@@ -24,18 +24,18 @@ from lib.crates import dependencies
 from lib.places import ROOT
 from lib.proved_bodies import cell, reasons_given
 from lib.wrong_bodies import CLASSES, CLAUSE, CRATES, NO_CODE, PANIC, PROVED, REFUSED
-from lib.wrong_bodies import Body, found, functions_of, key, kit, table, try_bodies
+from lib.wrong_bodies import Body, found, functions_of, key, logic, table, try_bodies
 
 PAGE = ROOT / "docs" / "MUTANTS.md"
 COLUMNS = ["At a clause", "At a panic", "By its answers alone", "No evidence", "Proved"]
 HEAD = """# Mutants
 
-Made by `make mutants SEED={seed} COUNT={count}`, with {kit}.
+Made by `make mutants SEED={seed} COUNT={count}`, with a kit of the logic `{logic}`.
 
 A mutant is a small wrong edit at a random line of a body: a comparison turned, one more or less, a
 call left out, two arguments swapped, one branch in the place of the other, another constant, a
-return before the line. Each line of all crates but those of tests and benches is as likely as
-another.
+return before the line. Each line of all crates is as likely as another, but for those of tests,
+`house_script` among them, and benches.
 
 A mutant counts as refused where a goal of a contract, or of safety as at an index, is false or
 stays open: at a clause, or at a panic. One that is refused by its answers alone tells nothing of
@@ -44,6 +44,8 @@ another. There is no evidence either where a search met a limit, or where only t
 loop fails. One that is proved means the same as the right body, or a clause is missing.
 """
 LEFT_OUT = re.compile(r"test_|bench_")
+# It prints what tests compare, mostly without contracts. Its lines are drawn and dropped, so that a seed draws the others as ever.
+PRINTS = "house_script"
 # What stands in a line and is no code: texts, characters, and a comment at its end.
 NO_CODE_TEXT = re.compile(r'b?"(?:\\.|[^"\\])*"|b?\'(?:\\.[^\']*|[^\'\\])\'|//.*')
 # A line that begins a statement, or is the value of its block.
@@ -284,7 +286,7 @@ def page(seed, bodies):
     counts["all"] = sum(counts.values(), collections.Counter())
     rows = [["Crate", "Mutants", *COLUMNS], ["---"] * (len(COLUMNS) + 2)]
     rows += [[crate, str(sum(ways.values())), *(str(ways[name]) for name in COLUMNS)] for crate, ways in counts.items()]
-    lines = [HEAD.format(count=len(bodies), seed=seed, kit=kit().strip()), *(f"| {' | '.join(row)} |" for row in rows)]
+    lines = [HEAD.format(count=len(bodies), seed=seed, logic=logic()), *(f"| {' | '.join(row)} |" for row in rows)]
     proved = [row_of(body) for body in bodies if found(body).kind == PROVED]
     if proved:
         lines += ["", "## Proved", "", "| Crate | Function | Change | Why no clause refuses it |", "|---|---|---|---|"]
@@ -302,7 +304,8 @@ def main():
     if unknown:
         sys.exit(f"no crate: {' '.join(unknown)}")
     crates = [name for name in dependencies(ROOT) if name in named or not named and not LEFT_OUT.match(name)]
-    bodies = compiling(drawn(seed, crates), count, words == sys.argv[1:])
+    source = (body for body in drawn(seed, crates) if named or body.crate != PRINTS)
+    bodies = compiling(source, count, words == sys.argv[1:])
     results = [found(body) for body in bodies]
     counts = collections.Counter(one.kind for one in results)
     shaped = collections.Counter(one.kind for one in results if one.kind in REFUSED and one.by_shape())

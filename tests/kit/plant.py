@@ -20,7 +20,7 @@ import sys
 from lib.crates import dependencies
 from lib.places import ROOT
 from lib.proved_bodies import cell, reasons_given
-from lib.wrong_bodies import CRATES, Unfit, copied, edited, edits_of, functions_of, kit, owner, sum_of
+from lib.wrong_bodies import CRATES, Unfit, copied, edited, edits_of, functions_of, logic, owner, sum_of
 from lib.wrong_bodies import rows_of as rows_of_edit
 
 KEPT, PAGE = ROOT / "out" / "planted", ROOT / "docs" / "PLANTED.md"
@@ -39,7 +39,7 @@ WHYS = {"the tactics met a limit": "a limit", UNCHANGED: "the unchanged call isn
         OUT_OF_TIME: "no end"}
 HEAD = """# Planted bodies
 
-Made by `tests/kit/plant.py` of what `rt plant` said, with {kit}.
+Made by `tests/kit/plant.py` of what `rt plant` said, with a kit of the logic `{logic}`.
 
 `rt plant` puts wrong bodies under the public functions of a crate, and has the tactics try to prove
 each: some give up, others call the real function and change an argument, the result or a field.
@@ -180,7 +180,7 @@ def hand_made(crate, named):
 
 def page(found):
     """The page of what was said of each crate."""
-    lines = [HEAD.format(kit=kit().strip().split("\n")[0]) + "\n".join(row(crate, said) for crate, said in found.items())]
+    lines = [HEAD.format(logic=logic()) + "\n".join(row(crate, said) for crate, said in found.items())]
     reasons, proved = reasons_given(), proved_in(found)
     if proved:
         lines.append("\n## Proved\n\n| Crate | Function | Body | Why no clause refuses it |\n|---|---|---|---|")
