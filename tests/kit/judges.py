@@ -59,6 +59,7 @@ CHECKED = [
     ("no verdict", "rattle: no verdict, since antt ran out of memory\n", GAVE_UP, False),
     ("a proof", "fn c::a::f: proved\nonly=1 proved=1\n", PROVED, False),
     ("a proof over a callee that has none", "fn c::a::f: no proof: it calls `c::g`, which is not proved\nonly=1 proved=0\n", PROVED, False),
+    ("an end that may lie outside", f"note: src/a.rt:7:5: `search` found no proof (`slice_bounds-f-end`){VALUES}\n{END}", PANIC, False),
     ("another function's goal", f"{BEGIN}{ENSURES} (`returns`)\nfn c::g: no proof\nfn c::a::f: proved\nonly=2 proved=1\n", PROVED, False),
 ]
 CODE = """\

@@ -44,7 +44,7 @@ SEVERAL = re.compile(r"several functions are named `([^`]+)`: help: write one of
 NONE_NAMED = re.compile(r"has no function `([^`]+)`")
 SYMBOL = re.compile(r"`([^`]+)`")
 LINE = re.compile(r"fn (\S+): (.*)")
-GOAL = re.compile(r"note: (\S+?):\d+:\d+: it is not proved that (.*?)(?: \(`([^`\s]+)`\))?((?:; .*)?)$")
+GOAL = re.compile(r"note: (\S+?):\d+:\d+: (?:it is not proved that (.*?)|`search` found no proof)(?: \(`([^`\s]+)`\))?((?:; .*)?)$")
 IN_PROOFS = re.compile(r"(?:\./)?proofs/(\S+)\.antt:(\d+):\d+: error: (?:`([^`]*)`: )?(.*)")
 IN_CODE = re.compile(r"^(?:\./)?(src/\S+\.rt):(\d+):\d+: error", re.M)
 NAMES = re.compile(r"is not in scope|has no field|has no `|exports no|is no name|was not admitted|not answer|names no|no such")
@@ -476,7 +476,8 @@ def read(said):
     for line in said.split("\n"):
         goal, of, fault = GOAL.match(line), LINE.match(line), IN_PROOFS.match(line)
         if goal:
-            goals.append(Left(place_of(goal[3] or "", goal[2]), why_open(goal[4]), goal[3] or goal[2]))
+            says, name = goal[2] or "", goal[3] or ""
+            goals.append(Left(place_of(name, says), why_open(goal[4]), name or says))
         elif of:
             functions[of[1]] = (OF_CALLEES.sub("", of[2]), [*goals, *([Left(PROOF, LIMIT, CALLEE)] if of[1] in waits else [])])
             goals = []
