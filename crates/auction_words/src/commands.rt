@@ -1,159 +1,182 @@
 //! The subcommands, as `clap` reads and explains them.
+ghost use Rattle.std.specs.Prelude.{◌≡◌, IfOk, codes, fold};
+ghost use Rattle.clap.specs.Words.{app_of, new_app, shape_of, with_rule};
+ghost use Rattle.auction_words.specs.CommandLine.{audit_shape, bands_shape, house_app};
+ghost use Rattle.auction_words.specs.CommandLine.{import_shape, init_shape, replay_shape};
+ghost use Rattle.auction_words.specs.CommandLine.{serve_shape, setup_rules, shape_named};
+ghost use Rattle.auction_words.specs.CommandLine.{statement_shape, surplus_shape, upgrade_shape};
+
 use crate::arguments::{
-    AS_RECORDS, Argument, BAND_TABLE, BEGIN_HOUSE, CONNECTIONS, FEE_RATE, FIRST_DAY,
-    GIVEN_BAND_TABLE, GIVEN_FEE_RATE, GIVEN_TIME_ZONE, HOUSE_FILE, LAST_DAY, LEFT, LIST, LISTER,
-    LISTING_MOMENT, LOOKER, LOT_FILE, MAXIMUM, MOMENT, NEW_FILE, PLACE, PORT, PRESET, RECORD,
-    RIGHT, STATEMENT_MEMBER, TABLE_FILE, TIME_ZONE, arg_of,
+    band_table, begun_house, fee_rate, file, flag, house_file, looker, moment, required_option,
+    time_zone,
 };
 use crate::texts;
-use clap::{Arg, Command};
+use clap::Command;
 use std::alloc::{AllocError, Global};
 
-// A subcommand, and what the help says of it.
-struct Subcommand {
-    name: &'static str,
-    about: &'static str,
-    after_long_help: &'static str,
-    arguments: &'static [Argument],
+// A subcommand with what the help says of it, and no argument yet.
+fn subcommand<'a>(
+    alloc: Global,
+    name: &'a str,
+    about: &'a str,
+    after_long_help: &'a str,
+) -> Command<'a>
+    ensures { app_of result ≡ new_app name.entry.now }
+{
+    Command::new(alloc, name)
+        .about(about)
+        .after_long_help(after_long_help)
+}
+
+// A command with what sets up a new house, all of which may be left out.
+fn with_setup<'a>(alloc: Global, command: Command<'a>) -> Result<Command<'a>, AllocError>
+    ensures { IfOk result (λ r. app_of r ≡ fold with_rule (app_of command.entry) setup_rules) }
+{
+    command
+        .arg(band_table(alloc))?
+        .arg(fee_rate(alloc).default_value("1000"))?
+        .arg(time_zone(alloc).default_value("UTC0"))
 }
 
 // What its house is set up with has to be given.
-const INIT: Subcommand = Subcommand {
-    name: "init",
-    about: "Makes a new house in a file, and prints created",
-    after_long_help: texts::INIT,
-    arguments: &[NEW_FILE, GIVEN_BAND_TABLE, GIVEN_FEE_RATE, GIVEN_TIME_ZONE],
-};
-
-const SERVE: Subcommand = Subcommand {
-    name: "serve",
-    about: "Answers connections to 127.0.0.1 over the house in a file",
-    after_long_help: texts::SERVE,
-    arguments: &[HOUSE_FILE, PORT, CONNECTIONS],
-};
-
-const REPLAY: Subcommand = Subcommand {
-    name: "replay",
-    about: "Answers the messages on standard input over a new house in memory",
-    after_long_help: texts::REPLAY,
-    arguments: &[PRESET, RECORD, BAND_TABLE, FEE_RATE, TIME_ZONE],
-};
-
-const IMPORT: Subcommand = Subcommand {
-    name: "import",
-    about: "Lists each row of a lot file for a member, in the house in a file",
-    after_long_help: texts::IMPORT,
-    arguments: &[HOUSE_FILE, LOT_FILE, LISTER, LISTING_MOMENT],
-};
-
-const STATEMENT: Subcommand = Subcommand {
-    name: "statement",
-    about: "Prints what a member sold and bought in a period",
-    after_long_help: texts::STATEMENT,
-    arguments: &[
-        HOUSE_FILE,
-        STATEMENT_MEMBER,
-        FIRST_DAY,
-        LAST_DAY,
-        AS_RECORDS,
-    ],
-};
-
-const BANDS: Subcommand = Subcommand {
-    name: "bands",
-    about: "Sets a new band table in the house in a file",
-    after_long_help: texts::SET_BANDS,
-    arguments: &[HOUSE_FILE, TABLE_FILE, MOMENT],
-};
-
-const UPGRADE: Subcommand = Subcommand {
-    name: "upgrade",
-    about: "Makes a house of version 1 in a file one of version 2",
-    after_long_help: texts::UPGRADE,
-    arguments: &[HOUSE_FILE],
-};
-
-const AUDIT: Subcommand = Subcommand {
-    name: "audit",
-    about: "Compares two runs of messages as one member sees them",
-    after_long_help: texts::AUDIT,
-    arguments: &[
-        LEFT,
-        RIGHT,
-        LOOKER,
-        BEGIN_HOUSE,
-        BAND_TABLE,
-        FEE_RATE,
-        TIME_ZONE,
-    ],
-};
-
-const SURPLUS: Subcommand = Subcommand {
-    name: "surplus",
-    about: "Tells whether a raised maximum stays unseen by another member",
-    after_long_help: texts::SURPLUS,
-    arguments: &[
-        LIST,
-        PLACE,
-        MAXIMUM,
-        LOOKER,
-        BEGIN_HOUSE,
-        BAND_TABLE,
-        FEE_RATE,
-        TIME_ZONE,
-    ],
-};
-
-const SUBCOMMANDS: [Subcommand; 9] = [
-    INIT, SERVE, REPLAY, IMPORT, STATEMENT, BANDS, UPGRADE, AUDIT, SURPLUS,
-];
-
-// A command with one more argument. An error of the argument lets go of the command in this place.
-fn with_argument<'a>(
-    command: Command<'a>,
-    arg: Result<Arg<'a>, AllocError>,
-) -> Result<Command<'a>, AllocError> {
-    command.arg(arg?)
+fn init_command<'a>(alloc: Global) -> Result<Command<'a>, AllocError>
+    ensures { IfOk result (λ command. shape_of command ≡ init_shape) }
+{
+    let about = "Makes a new house in a file, and prints created";
+    let help = "The file, made where it is missing; it may hold no house";
+    subcommand(alloc, "init", about, texts::INIT)
+        .arg(file(alloc, "file", "FILE", help))?
+        .arg(band_table(alloc).required(true))?
+        .arg(fee_rate(alloc).required(true))?
+        .arg(time_zone(alloc).required(true))
 }
 
-// The command of a subcommand.
-fn command_of<'a>(alloc: Global, subcommand: &Subcommand) -> Result<Command<'a>, AllocError> {
-    let mut command = Command::new(alloc, subcommand.name)
-        .about(subcommand.about)
-        .after_long_help(subcommand.after_long_help);
-    for argument in subcommand.arguments {
-        command = with_argument(command, arg_of(alloc, argument))?;
-    }
-    Ok(command)
+fn serve_command<'a>(alloc: Global) -> Result<Command<'a>, AllocError>
+    ensures { IfOk result (λ command. shape_of command ≡ serve_shape) }
+{
+    let about = "Answers connections to 127.0.0.1 over the house in a file";
+    let count = "How many connections are answered: 1 to 1000000";
+    subcommand(alloc, "serve", about, texts::SERVE)
+        .arg(house_file(alloc))?
+        .arg(required_option(alloc, "port", "N", "The TCP port: 1 to 65535"))?
+        .arg(required_option(alloc, "count", "N", count))
+}
+
+fn replay_command<'a>(alloc: Global) -> Result<Command<'a>, AllocError>
+    ensures { IfOk result (λ command. shape_of command ≡ replay_shape) }
+{
+    let about = "Answers the messages on standard input over a new house in memory";
+    let preset = "Begin with three members, a category and an item";
+    let command = subcommand(alloc, "replay", about, texts::REPLAY)
+        .arg(flag(alloc, "preset", preset))?
+        .arg(flag(alloc, "record", "Append the public record and a newline"))?;
+    with_setup(alloc, command)
+}
+
+fn import_command<'a>(alloc: Global) -> Result<Command<'a>, AllocError>
+    ensures { IfOk result (λ command. shape_of command ≡ import_shape) }
+{
+    let about = "Lists each row of a lot file for a member, in the house in a file";
+    let member = "The member whose items are listed: 1 to 100000";
+    subcommand(alloc, "import", about, texts::IMPORT)
+        .arg(house_file(alloc))?
+        .arg(file(alloc, "lots", "LOTS", "The lot file, as CSV"))?
+        .arg(required_option(alloc, "member", "N", member))?
+        .arg(moment(alloc).long_help(texts::MOMENT))
+}
+
+fn statement_command<'a>(alloc: Global) -> Result<Command<'a>, AllocError>
+    ensures { IfOk result (λ command. shape_of command ≡ statement_shape) }
+{
+    let about = "Prints what a member sold and bought in a period";
+    let member = "The member whose statement it is: 1 to 100000";
+    subcommand(alloc, "statement", about, texts::STATEMENT)
+        .arg(house_file(alloc))?
+        .arg(required_option(alloc, "member", "N", member))?
+        .arg(required_option(alloc, "from", "DAY", "The first day, as YYYY-MM-DD"))?
+        .arg(required_option(alloc, "to", "DAY", "The last day, as YYYY-MM-DD"))?
+        .arg(flag(alloc, "csv", "Print records of CSV, without the totals"))
+}
+
+fn bands_command<'a>(alloc: Global) -> Result<Command<'a>, AllocError>
+    ensures { IfOk result (λ command. shape_of command ≡ bands_shape) }
+{
+    let about = "Sets a new band table in the house in a file";
+    subcommand(alloc, "bands", about, texts::SET_BANDS)
+        .arg(house_file(alloc))?
+        .arg(file(alloc, "csv", "CSV", "The band table, as CSV"))?
+        .arg(moment(alloc))
+}
+
+fn upgrade_command<'a>(alloc: Global) -> Result<Command<'a>, AllocError>
+    ensures { IfOk result (λ command. shape_of command ≡ upgrade_shape) }
+{
+    let about = "Makes a house of version 1 in a file one of version 2";
+    subcommand(alloc, "upgrade", about, texts::UPGRADE).arg(house_file(alloc))
+}
+
+fn audit_command<'a>(alloc: Global) -> Result<Command<'a>, AllocError>
+    ensures { IfOk result (λ command. shape_of command ≡ audit_shape) }
+{
+    let about = "Compares two runs of messages as one member sees them";
+    let left = "The messages of one run, one after the other";
+    let command = subcommand(alloc, "audit", about, texts::AUDIT)
+        .arg(file(alloc, "left", "LEFT", left))?
+        .arg(file(alloc, "right", "RIGHT", "The messages of the other run"))?
+        .arg(looker(alloc))?
+        .arg(begun_house(alloc)?)?;
+    with_setup(alloc, command)
+}
+
+fn surplus_command<'a>(alloc: Global) -> Result<Command<'a>, AllocError>
+    ensures { IfOk result (λ command. shape_of command ≡ surplus_shape) }
+{
+    let about = "Tells whether a raised maximum stays unseen by another member";
+    let list = "The messages of the run, one after the other";
+    let place = "The bid's place among the messages: 1 to 1000000";
+    let maximum = "What the bid is raised to, in cents: 0 to 1000000000";
+    let command = subcommand(alloc, "surplus", about, texts::SURPLUS)
+        .arg(file(alloc, "list", "LIST", list))?
+        .arg(required_option(alloc, "place", "N", place))?
+        .arg(required_option(alloc, "maximum", "N", maximum))?
+        .arg(looker(alloc))?
+        .arg(begun_house(alloc)?)?;
+    with_setup(alloc, command)
 }
 
 /// The command of a subcommand's name; of any other it is the last.
-pub fn command_named<'a>(alloc: Global, name: &str) -> Result<Command<'a>, AllocError> {
-    for subcommand in SUBCOMMANDS.iter() {
-        if subcommand.name == name {
-            return command_of(alloc, subcommand);
-        }
+pub fn command_named<'a>(alloc: Global, name: &str) -> Result<Command<'a>, AllocError>
+    ensures { IfOk result (λ command. shape_of command ≡ shape_named name.now) }
+{
+    match name {
+        "init" => init_command(alloc),
+        "serve" => serve_command(alloc),
+        "replay" => replay_command(alloc),
+        "import" => import_command(alloc),
+        "statement" => statement_command(alloc),
+        "bands" => bands_command(alloc),
+        "upgrade" => upgrade_command(alloc),
+        "audit" => audit_command(alloc),
+        _ => surplus_command(alloc),
     }
-    command_of(alloc, &SURPLUS)
-}
-
-// A command with one more subcommand. An error of the second lets go of the first in this place.
-fn with_subcommand<'a>(
-    command: Command<'a>,
-    subcommand: Result<Command<'a>, AllocError>,
-) -> Result<Command<'a>, AllocError> {
-    command.subcommand(subcommand?)
 }
 
 /// The command line: one subcommand.
-pub fn command<'a>(alloc: Global) -> Result<Command<'a>, AllocError> {
-    let mut command = Command::new(alloc, "auction")
+pub fn command<'a>(alloc: Global) -> Result<Command<'a>, AllocError>
+    ensures { IfOk result (λ command. app_of command ≡ house_app) }
+{
+    Command::new(alloc, "auction")
         .version(texts::VERSION)
         .about("An auction house: HTTP/1.1 messages with JSON in, their answers out")
         .after_long_help(texts::PROGRAM)
-        .subcommand_required(true);
-    for subcommand in SUBCOMMANDS.iter() {
-        command = with_subcommand(command, command_of(alloc, subcommand))?;
-    }
-    Ok(command)
+        .subcommand_required(true)
+        .subcommand(init_command(alloc)?)?
+        .subcommand(serve_command(alloc)?)?
+        .subcommand(replay_command(alloc)?)?
+        .subcommand(import_command(alloc)?)?
+        .subcommand(statement_command(alloc)?)?
+        .subcommand(bands_command(alloc)?)?
+        .subcommand(upgrade_command(alloc)?)?
+        .subcommand(audit_command(alloc)?)?
+        .subcommand(surplus_command(alloc)?)
 }
