@@ -1,2 +1,3 @@
+mod AskedLemmas
 pub mod CommandLemmas
 pub mod HouseAppLemmas

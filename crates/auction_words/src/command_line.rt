@@ -1,6 +1,14 @@
 //! The words that the program takes.
-ghost use Rattle.std.specs.Prelude.{IfOk, IfSome};
-ghost use Rattle.auction_words.specs.Tasks.{IsMember, IsWithin};
+ghost use Rattle.std.specs.Prelude.{◌≡◌, ℕ, IfErr, IfOk, IfSome, codes, is_some, map};
+ghost use Rattle.std.specs.Prelude.{string_bytes, true};
+ghost use Rattle.auction_words.specs.CommandLine.{house_app};
+ghost use Rattle.auction_words.specs.Tasks.{Asks, AsksForNone, HasRate, IsAsked, IsAskedBy};
+ghost use Rattle.auction_words.specs.Tasks.{IsBeginning, IsHouse, IsMember, IsMemoryIfAsked};
+ghost use Rattle.auction_words.specs.Tasks.{IsNumberOf, IsRate, IsWithin, NamesNoBeginning};
+ghost use Rattle.auction_words.specs.Tasks.{NamesNoHouse, rows_in};
+ghost use Rattle.clap.specs.Matches.{has_subcommand};
+ghost use Rattle.clap.specs.Simple.{subcommand_of, subcommand_rows_of};
+ghost use Rattle.clap.specs.Takes.{takes};
 
 use crate::arguments::{MOST_CONNECTIONS, MOST_MESSAGES};
 use crate::commands::command;
@@ -131,13 +139,20 @@ pub enum Task<'a> {
 
 // The number of a member.
 fn member(words: &ArgMatches<'_>) -> Result<u64, Refused>
-    ensures { IfOk result IsMember }
+    ensures asked { IfOk result (IsNumberOf (codes "member") (rows_in words.now)) }
+    ensures within { IfOk result IsMember }
+    ensures refused { let rows = rows_in words.now in
+        IfErr result (λ _. (n : ℕ) → IsNumberOf (codes "member") rows n → IsMember n → ⊥) }
 {
     number(words, "member", 1, MOST_MEMBERS as u64)
 }
 
 // What the words of a subcommand say of the house.
-fn house_words<'a>(words: &ArgMatches<'a>) -> Result<HouseWords<'a>, Refused> {
+fn house_words<'a>(words: &ArgMatches<'a>) -> Result<HouseWords<'a>, Refused>
+    ensures asked { IfOk result (IsHouse (rows_in words.now)) }
+    ensures within { IfOk result (λ house. IsRate house.rate) }
+    ensures refused { IfErr result (λ _. NamesNoHouse (rows_in words.now)) }
+{
     let rate = number(words, "rate", 0, MOST_RATE)?;
     match Rate::new(rate) {
         Some(rate) => Ok(HouseWords {
@@ -150,7 +165,11 @@ fn house_words<'a>(words: &ArgMatches<'a>) -> Result<HouseWords<'a>, Refused> {
 }
 
 // What the words of a subcommand say of the beginning of its runs.
-fn beginning_words<'a>(words: &ArgMatches<'a>) -> Result<Beginning<'a>, Refused> {
+fn beginning_words<'a>(words: &ArgMatches<'a>) -> Result<Beginning<'a>, Refused>
+    ensures asked { IfOk result (IsBeginning (rows_in words.now)) }
+    ensures within { IfOk result HasRate }
+    ensures refused { IfErr result (λ _. NamesNoBeginning (rows_in words.now)) }
+{
     match words.get_str("house") {
         Some(file) => Ok(Beginning::House(file)),
         None => match house_words(words) {
@@ -162,7 +181,9 @@ fn beginning_words<'a>(words: &ArgMatches<'a>) -> Result<Beginning<'a>, Refused>
 
 // What the words of `init` ask for.
 fn init_task<'a>(words: &ArgMatches<'a>) -> Result<Task<'a>, Refused>
-    ensures { IfOk result IsWithin }
+    ensures asked { IfOk result (Asks (codes "init") (rows_in words.now)) }
+    ensures within { IfOk result IsWithin }
+    ensures refused { IfErr result (λ _. AsksForNone (codes "init") (rows_in words.now)) }
 {
     let file = text(words, "file")?;
     match house_words(words) {
@@ -173,7 +194,9 @@ fn init_task<'a>(words: &ArgMatches<'a>) -> Result<Task<'a>, Refused>
 
 // What the words of `serve` ask for.
 fn serve_task<'a>(words: &ArgMatches<'a>) -> Result<Task<'a>, Refused>
-    ensures { IfOk result IsWithin }
+    ensures asked { IfOk result (Asks (codes "serve") (rows_in words.now)) }
+    ensures within { IfOk result IsWithin }
+    ensures refused { IfErr result (λ _. AsksForNone (codes "serve") (rows_in words.now)) }
 {
     let file = text(words, "file")?;
     let port = number(words, "port", 1, 65_535)? as u16;
@@ -183,7 +206,9 @@ fn serve_task<'a>(words: &ArgMatches<'a>) -> Result<Task<'a>, Refused>
 
 // What the words of `replay` ask for.
 fn replay_task<'a>(words: &ArgMatches<'a>) -> Result<Task<'a>, Refused>
-    ensures { IfOk result IsWithin }
+    ensures asked { IfOk result (Asks (codes "replay") (rows_in words.now)) }
+    ensures within { IfOk result IsWithin }
+    ensures refused { IfErr result (λ _. AsksForNone (codes "replay") (rows_in words.now)) }
 {
     let asked = Replay {
         preset: words.get_flag("preset"),
@@ -197,7 +222,9 @@ fn replay_task<'a>(words: &ArgMatches<'a>) -> Result<Task<'a>, Refused>
 
 // What the words of `import` ask for.
 fn import_task<'a>(words: &ArgMatches<'a>) -> Result<Task<'a>, Refused>
-    ensures { IfOk result IsWithin }
+    ensures asked { IfOk result (Asks (codes "import") (rows_in words.now)) }
+    ensures within { IfOk result IsWithin }
+    ensures refused { IfErr result (λ _. AsksForNone (codes "import") (rows_in words.now)) }
 {
     let file = text(words, "file")?;
     let asked = ImportWords {
@@ -210,7 +237,9 @@ fn import_task<'a>(words: &ArgMatches<'a>) -> Result<Task<'a>, Refused>
 
 // What the words of `statement` ask for.
 fn statement_task<'a>(words: &ArgMatches<'a>) -> Result<Task<'a>, Refused>
-    ensures { IfOk result IsWithin }
+    ensures asked { IfOk result (Asks (codes "statement") (rows_in words.now)) }
+    ensures within { IfOk result IsWithin }
+    ensures refused { IfErr result (λ _. AsksForNone (codes "statement") (rows_in words.now)) }
 {
     let file = text(words, "file")?;
     let asked = StatementWords {
@@ -224,7 +253,9 @@ fn statement_task<'a>(words: &ArgMatches<'a>) -> Result<Task<'a>, Refused>
 
 // What the words of `bands` ask for.
 fn bands_task<'a>(words: &ArgMatches<'a>) -> Result<Task<'a>, Refused>
-    ensures { IfOk result IsWithin }
+    ensures asked { IfOk result (Asks (codes "bands") (rows_in words.now)) }
+    ensures within { IfOk result IsWithin }
+    ensures refused { IfErr result (λ _. AsksForNone (codes "bands") (rows_in words.now)) }
 {
     let file = text(words, "file")?;
     let csv = text(words, "csv")?;
@@ -234,7 +265,9 @@ fn bands_task<'a>(words: &ArgMatches<'a>) -> Result<Task<'a>, Refused>
 
 // What the words of `audit` ask for.
 fn audit_task<'a>(words: &ArgMatches<'a>) -> Result<Task<'a>, Refused>
-    ensures { IfOk result IsWithin }
+    ensures asked { IfOk result (Asks (codes "audit") (rows_in words.now)) }
+    ensures within { IfOk result IsWithin }
+    ensures refused { IfErr result (λ _. AsksForNone (codes "audit") (rows_in words.now)) }
 {
     let asked = AuditWords {
         left: text(words, "left")?,
@@ -249,7 +282,9 @@ fn audit_task<'a>(words: &ArgMatches<'a>) -> Result<Task<'a>, Refused>
 
 // What the words of `surplus` ask for.
 fn surplus_task<'a>(words: &ArgMatches<'a>) -> Result<Task<'a>, Refused>
-    ensures { IfOk result IsWithin }
+    ensures asked { IfOk result (Asks (codes "surplus") (rows_in words.now)) }
+    ensures within { IfOk result IsWithin }
+    ensures refused { IfErr result (λ _. AsksForNone (codes "surplus") (rows_in words.now)) }
 {
     let asked = SurplusWords {
         list: text(words, "list")?,
@@ -265,7 +300,9 @@ fn surplus_task<'a>(words: &ArgMatches<'a>) -> Result<Task<'a>, Refused>
 
 // What the words of a subcommand ask for.
 fn task_of<'a>(name: &str, words: &ArgMatches<'a>) -> Result<Task<'a>, Refused>
-    ensures { IfOk result IsWithin }
+    ensures asked { IfOk result (Asks name.now (rows_in words.now)) }
+    ensures within { IfOk result IsWithin }
+    ensures refused { IfErr result (λ _. AsksForNone name.now (rows_in words.now)) }
 {
     match name {
         "init" => init_task(words),
@@ -283,7 +320,10 @@ fn task_of<'a>(name: &str, words: &ArgMatches<'a>) -> Result<Task<'a>, Refused>
 
 // What words that were taken ask for.
 fn task_in<'a>(alloc: Global, matches: &ArgMatches<'a>) -> Result<Option<Task<'a>>, Error>
-    ensures { IfOk result (λ task. IfSome task IsWithin) }
+    ensures asked { IfOk result (λ task. IfSome task (IsAskedBy (subcommand_rows_of matches.now))) }
+    ensures within { IfOk result (λ task. IfSome task IsWithin) }
+    ensures given { IfOk result (λ task. is_some task ≡ has_subcommand matches.now) }
+    ensures refused { IfErr result (IsMemoryIfAsked (subcommand_rows_of matches.now)) }
 {
     match matches.subcommand() {
         Some((name, words)) => match task_of(name, words) {
@@ -294,10 +334,16 @@ fn task_in<'a>(alloc: Global, matches: &ArgMatches<'a>) -> Result<Option<Task<'a
     }
 }
 
-/// What words ask for, the first of them the program's own name. An error is for words that are
-/// refused, for those that ask for help, and for want of memory.
+/// What words ask for, the first of them the program's own name. It is never `None`, because the
+/// command line requires a subcommand. An error is for words that are refused, for those that ask
+/// for help, and for memory that ran out. Of `audit` and `surplus` no clause says which words are
+/// refused: `takes` holds of no command with arguments that exclude each other.
 pub fn read_task<'a>(alloc: Global, words: &'a [String]) -> Result<Option<Task<'a>>, Error>
-    ensures { IfOk result (λ task. IfSome task IsWithin) }
+    ensures asked { IfOk result (λ task. IfSome task (IsAsked (map string_bytes words.now))) }
+    ensures within { IfOk result (λ task. IfSome task IsWithin) }
+    ensures given { IfOk result (λ task. is_some task ≡ true) }
+    ensures refused { let texts = map string_bytes words.now in IfErr result (λ error.
+        takes house_app texts ≡ true → IsMemoryIfAsked (subcommand_of house_app texts) error) }
 {
     let matches = command(alloc)?.try_get_matches_from(words)?;
     task_in(alloc, &matches)

@@ -1,7 +1,9 @@
 //! The values of the words, each read or refused.
-ghost use Rattle.std.specs.Prelude.{◌≡◌, IfErr, IfOk};
+ghost use Rattle.std.specs.Prelude.{◌≡◌, ℕ, IfErr, IfOk};
 ghost use Rattle.std.specs.Int.{IsInRange};
+ghost use Rattle.auction_words.specs.Tasks.{IsNumberOf, IsTextOf, rows_in};
 ghost use Rattle.clap.specs.Values.{kind_of};
+ghost use Rattle.clap.specs.Walk.{first_of};
 ghost use Rattle.clap.specs.declared.error.kind.ErrorKind.TheVariants.{ValueValidation};
 
 use crate::commands::command_named;
@@ -18,7 +20,9 @@ pub struct Refused {
 
 /// A text of the words, which is there in all that `clap` takes.
 pub fn text<'a>(words: &ArgMatches<'a>, name: &'static str) -> Result<&'a str, Refused>
-    ensures { IfErr result (λ refused. refused.name.now ≡ name.now) }
+    ensures value { IfOk result (λ text. IsTextOf name.now (rows_in words.now) text.now) }
+    ensures missing { IfErr result (λ _. first_of name.now (rows_in words.now) ≡ None) }
+    ensures named { IfErr result (λ refused. refused.name.now ≡ name.now) }
 {
     match words.get_str(name) {
         Some(text) => Ok(text),
@@ -33,7 +37,10 @@ pub fn number(
     least: u64,
     most: u64,
 ) -> Result<u64, Refused>
+    ensures value { IfOk result (IsNumberOf name.now (rows_in words.now)) }
     ensures within { IfOk result (IsInRange least most) }
+    ensures missing { let rows = rows_in words.now in
+        IfErr result (λ _. (n : ℕ) → IsNumberOf name.now rows n → IsInRange least most n → ⊥) }
     ensures named { IfErr result (λ refused. refused.name.now ≡ name.now) }
 {
     match words.get_one(name) {
