@@ -1,14 +1,17 @@
 -- What is done of each task to the house in its file, and what is left of that. Start here.
-use Rattle.std.specs.Prelude.{ℕ, Bool, List, ⊤}
+use Rattle.std.specs.Prelude.{◌≡◌, ◌⊎◌, ℕ, Bool, List, true, ⊤}
 use Rattle.auction_runs.specs.Listed.{HasTaken, IsOrderedOver}
 use Rattle.auction_runs.specs.Over.{IsOver, IsReadOver}
 use Rattle.auction_runs.specs.Runs.{HasAsked, HasDone, HasServed, HasSetTable, IsLeftBy, IsMadeBy, IsServedOver, IsUpgradedAs, MayHaveSetTable}
+use Rattle.auction_words.specs.CommandLine.{house_app}
 use Rattle.auction_words.specs.Houses.{IsNew}
+use Rattle.auction_words.specs.Tasks.{IsAsked, IsWithin}
 use Rattle.auction_words.specs.declared.command_line.Beginning.{Beginning}
 use Rattle.auction_words.specs.declared.command_line.Beginning.TheVariants.{House, New}
 use Rattle.auction_words.specs.declared.command_line.HouseWords.{HouseWords}
 use Rattle.auction_words.specs.declared.command_line.Task.{Task}
 use Rattle.auction_words.specs.declared.command_line.Task.TheVariants.{Audit, Bands, Import, Init, Replay, Serve, Statement, Surplus, Upgrade}
+use Rattle.clap.specs.Takes.{takes}
 use Rattle.house_rows.specs.Tables.{Tables}
 use Rattle.house_rows.specs.declared.keep.Keep as keep
 use Rattle.house_rows.specs.declared.settings.Settings.{Settings}
@@ -98,3 +101,13 @@ IsLeftOf k is_at is_ended is_left is_opened is_new is_upgraded is_held is_made i
     (Audit begun asked) = λ _. ⊤
 IsLeftOf k is_at is_ended is_left is_opened is_new is_upgraded is_held is_made is_grown Takes
     (Surplus begun asked) = λ _. ⊤
+
+-- words ask for no task with its numbers in their ranges, or `clap` doesn't take them
+abbrev pub AskForNoTask : List (List ℕ) → Type 0
+AskForNoTask words = takes house_app words ≡ true
+    → (task : Task) → IsAsked words task → IsWithin task → ⊥
+
+-- the task that words ask for was done. Of words that ask for none, as for help, nothing is said
+abbrev pub IsDoneAsAsked : {R L : Type 0} → (Task → Remains R L → Type 0) → List (List ℕ) → Type 0
+IsDoneAsAsked {R} {L} Did words = AskForNoTask words
+    ⊎ ((task : Task) × (remains : Remains R L) × IsAsked words task × Did task remains)

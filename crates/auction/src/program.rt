@@ -1,6 +1,6 @@
 //! The program's run: words in, an exit status out.
-ghost use Rattle.std.specs.Prelude.{◌≡◌, ◌≢◌, ◌≤◌};
-ghost use Rattle.auction.specs.Tasks.{HasNewHouse, IsDone, IsLeftOf};
+ghost use Rattle.std.specs.Prelude.{◌≡◌, ◌≢◌, ◌≤◌, map, string_bytes};
+ghost use Rattle.auction.specs.Tasks.{HasNewHouse, IsDone, IsDoneAsAsked, IsLeftOf};
 ghost use Rattle.auction_runs.specs.Served.{most_messages};
 ghost use Rattle.clap.specs.Values.{kind_of};
 ghost use Rattle.clap.specs.declared.error.kind.ErrorKind.TheVariants.{DisplayHelp, DisplayVersion};
@@ -131,7 +131,11 @@ fn start_over<F: KeepInFile, M: KeepInMemory, C: Listen>(
     words: &[String],
     first: F::First,
 ) -> u8
-    ensures { result ≤ 2 }
+    ensures within { result ≤ 2 }
+    ensures done { result ≡ 0 → IsDoneAsAsked {R = F.Rest} {L = F.Left} (λ task remains.
+        IsDone F.Keep C.is_at F.is_ended F.is_opened F.is_new F.is_upgraded
+        (λ zone. Takes F.Keep C.Input.Source C.Output.Sink C.accepts C.ends zone most_messages)
+        task remains × HasNewHouse M.content task) (map string_bytes words.now) }
 {
     match read_task(alloc, words) {
         Ok(Some(task)) => {
