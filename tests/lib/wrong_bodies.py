@@ -332,6 +332,7 @@ class Copy:
         try:
             for file, text in texts.items():
                 (self.folder / file).write_text(text)
+            begun = self.begin_answers(blocks.values())
             while True:
                 names = list(dict.fromkeys(name for one in asked for name in self.symbols.get(one, [one])))
                 said = self.run([*self.command, "--jobs", "1", *(word for name in names for word in ("--only", name))])
@@ -342,6 +343,20 @@ class Copy:
         finally:
             for file, text in was.items():
                 (self.folder / file).write_text(text)
+            for path in begun:
+                path.unlink()
+
+    def begin_answers(self, functions):
+        """Makes an empty file of answers for each of some functions that has none, and says which. Where one is lacking, the prover
+        runs a second time to write out the answers that it expects, which takes as long as the first."""
+        begun = []
+        for function in functions:
+            path = self.folder / answers_of(self.crate, function)
+            if not path.exists():
+                path.parent.mkdir(parents=True, exist_ok=True)
+                path.touch()
+                begun.append(path)
+        return begun
 
     def learn(self, said, blocks):
         """Takes from what a check says by which names the functions that were asked for are known, where it knows several or none
@@ -377,6 +392,24 @@ def copied(crate):
             if copy.work().is_dir() and not (KEPT / "work" / crate).exists():
                 (KEPT / "work").mkdir(parents=True, exist_ok=True)
                 shutil.move(copy.work(), KEPT / "work" / crate)
+
+
+@functools.cache
+def module_of_type(crate, name):
+    """The file of a crate that declares a type, without its ending, or none where it declares no such type."""
+    source = CRATES / crate / "src"
+    declared = re.compile(rf"^(?:pub(?:\([^)]*\))? )?(?:struct|enum) {name}\b", re.M)
+    return next((path.relative_to(source).with_suffix("") for path in sorted(source.rglob("*.rt")) if declared.search(path.read_text())), None)
+
+
+def answers_of(crate, function):
+    """The file of answers of a function. Methods of a type itself are proved where the type is declared, those of its traits where
+    they stand."""
+    trait, of = owner(function.block) if function.block else ("", "")
+    own = pathlib.PurePath(function.file).relative_to("src").with_suffix("")
+    module = own if trait or not of else module_of_type(crate, of) or own
+    parts = [] if str(module) in ("lib", "main") else module.parts
+    return pathlib.PurePath("proofs", *parts, *filter(None, [of + trait]), function.name, "Answers.antt")
 
 
 def linked(one, other):
