@@ -2,8 +2,8 @@
 """Runs the program on words and devices that are right and wrong: `program.py PROGRAM`.
 
 Each case has its exit status, what goes to standard output and the line on standard error. Where `clap` refuses the words, its
-text is only looked at for where it goes and how it begins. Faults of each kind of line, with a number, a name or neither, are
-written in one call. The last line is 'N cases, M wrong'.
+text is only looked at for where it goes and how it begins. The least and the greatest of each number have to be taken. Faults of
+each kind of line, with a number, a name or neither, are written in one call. The last line is 'N cases, M wrong'.
 
 Promise: bytes to bytes
 """
@@ -101,6 +101,24 @@ REFUSED_WORDS = [
     ["surplus", "list", "--place", "7", "--maximum", "1", "--member", "100001"],
     ["surplus", "list", "--place", "7", "--maximum", "1", "--member", "1", "--rate", "2001"],
     ["surplus", "list", "--place", "7", "--maximum", "1", "--member", "1", "--preset"],
+]
+
+# Of each number that a command takes the least and the greatest, and how the run ends then: no FILE is there.
+TAKEN_NUMBERS = [
+    (["init", "FILE", "--bands", "FILE", "--zone", "UTC0", "--rate"], (0, 2000), "bands: Device"),
+    (["serve", "FILE", "--count", "1", "--port"], (1, 65535), "file: Store"),
+    (["serve", "FILE", "--port", "80", "--count"], (1, 1000000), "file: Store"),
+    (["replay", "--bands", "FILE", "--rate"], (0, 2000), "bands: Device"),
+    (["import", "FILE", "FILE", "--moment", "1", "--member"], (1, 100000), "file: Store"),
+    (["import", "FILE", "FILE", "--member", "1", "--moment"], (0, 4102444800), "file: Store"),
+    (["statement", "FILE", "--from", "1970-01-01", "--to", "1970-01-01", "--member"], (1, 100000), "file: Store"),
+    (["bands", "FILE", "FILE", "--moment"], (0, 4102444800), "bands: Device"),
+    (["audit", "FILE", "FILE", "--member"], (1, 100000), "input: Read"),
+    (["audit", "FILE", "FILE", "--member", "1", "--rate"], (0, 2000), "input: Read"),
+    (["surplus", "FILE", "--maximum", "1", "--member", "1", "--place"], (1, 1000000), "input: Read"),
+    (["surplus", "FILE", "--place", "7", "--member", "1", "--maximum"], (0, 1000000000), "input: Read"),
+    (["surplus", "FILE", "--place", "7", "--maximum", "1", "--member"], (1, 100000), "input: Read"),
+    (["surplus", "FILE", "--place", "7", "--maximum", "1", "--member", "1", "--rate"], (0, 2000), "input: Read"),
 ]
 
 # Commands, each with its own help.
@@ -208,6 +226,10 @@ def cases(folder, full):
         yield over_memory([word], ended(0, b"auction 1.0.0\n", b""))
     for words, wanted in REFUSED_NUMBERS:
         yield over_memory(words, refused_number(words, wanted))
+    for words, numbers, line in TAKEN_NUMBERS:
+        over_missing = [str(folder / "missing") if word == "FILE" else word for word in words]
+        for number in numbers:
+            yield over_memory([*over_missing, str(number)], fault(line))
     for rule in ("", "UTC", "CET-1\n", "CET-25", "Europe/Berlin"):
         yield over_memory(["replay", "--zone", rule], fault("zone"), READ)
     # A table's fault is reported before a zone's.
