@@ -6,10 +6,10 @@ each line is as likely as another, and one of the edits that fit it: a compariso
 swapped, a branch taken twice, another constant, a return before the line, `||` for `&&`, a `!` dropped. Each is checked as reasons.py
 checks an edit, with the same classes and the same folder of what is kept; one that doesn't compile is drawn again. Those that are
 refused only because answers of the proof no longer fit count apart: they say nothing of the contract. One that is PROVED is printed,
-with the reason that proved.tsv gives for it, or as a line of that file with none: it means the same as before, or a clause is
-missing. With --kept nothing is tried, and what is kept is counted. docs/MUTANTS.md gets the mutants of all crates by what they came
-to, and is left as it was where some crates are named. It needs the kit, with its `rt` on the path. The last line is 'N mutants, M
-proved, K of them with no reason'.
+with the reason that proved.tsv gives for it, or as a line of that file with none: it means the same as before or is as right, no
+clause can speak of what it changes, or a clause is missing. With --kept nothing is tried, and what is kept is counted.
+docs/MUTANTS.md gets the mutants of all crates by what they came to, with the commit of which they are, and is left as it was where
+some crates are named. It needs the kit, with its `rt` on the path. The last line is 'N mutants, M proved, K of them with no reason'.
 
 Promise: none
 """
@@ -18,6 +18,7 @@ import difflib
 import functools
 import random
 import re
+import subprocess
 import sys
 
 from lib.crates import dependencies
@@ -30,7 +31,8 @@ PAGE = ROOT / "docs" / "MUTANTS.md"
 COLUMNS = ["At a clause", "At a panic", "By its answers alone", "No evidence", "Proved"]
 HEAD = """# Mutants
 
-Made by `make mutants SEED={seed} COUNT={count}`, with a kit of the logic `{logic}`.
+Made by `make mutants SEED={seed} COUNT={count}` of the text of commit `{commit}`, with a kit of the
+logic `{logic}`. Of another text the seed draws others.
 
 A mutant is a small wrong edit at a random line of a body: a comparison turned, one more or less, a
 call left out, two arguments swapped, one branch in the place of the other, another constant, a
@@ -41,7 +43,9 @@ A mutant counts as refused where a goal of a contract, or of safety as at an ind
 stays open: at a clause, or at a panic. One that is refused by its answers alone tells nothing of
 the contract, because the proof has an answer that no longer fits the changed code, and nobody wrote
 another. There is no evidence either where a search met a limit, or where only the invariant of a
-loop fails. One that is proved means the same as the right body, or a clause is missing.
+loop fails. One that is proved has a reason: it means the same as the right body, it answers in
+another way that is as right, it changes what no clause can speak of, such as why the machine
+refused a file, or a clause is missing.
 """
 LEFT_OUT = re.compile(r"test_|bench_")
 # It prints what tests compare, mostly without contracts. Its lines are drawn and dropped, so that a seed draws the others as ever.
@@ -277,16 +281,23 @@ def column(one):
     return {CLAUSE: "At a clause", PANIC: "At a panic"}.get(one.kind, "No evidence")
 
 
+def commit():
+    """The commit whose text the mutants are drawn of."""
+    words = ["git", "rev-parse", "--short=8", "HEAD"]
+    return subprocess.run(words, cwd=ROOT, capture_output=True, text=True, check=True).stdout.strip()
+
+
 def page(seed, bodies):
     """The page of mutants that were drawn of all crates."""
+    order = list(dependencies(ROOT))
+    bodies = sorted(bodies, key=lambda body: order.index(body.crate))
     counts = {}
     for body in bodies:
         counts.setdefault(body.crate, collections.Counter())[column(found(body))] += 1
-    counts = {crate: counts[crate] for crate in dependencies(ROOT) if crate in counts}
     counts["all"] = sum(counts.values(), collections.Counter())
     rows = [["Crate", "Mutants", *COLUMNS], ["---"] * (len(COLUMNS) + 2)]
     rows += [[crate, str(sum(ways.values())), *(str(ways[name]) for name in COLUMNS)] for crate, ways in counts.items()]
-    lines = [HEAD.format(count=len(bodies), seed=seed, logic=logic()), *(f"| {' | '.join(row)} |" for row in rows)]
+    lines = [HEAD.format(count=len(bodies), seed=seed, commit=commit(), logic=logic()), *(f"| {' | '.join(row)} |" for row in rows)]
     proved = [row_of(body) for body in bodies if found(body).kind == PROVED]
     if proved:
         lines += ["", "## Proved", "", "| Crate | Function | Change | Why no clause refuses it |", "|---|---|---|---|"]
