@@ -9,9 +9,10 @@ from lib.places import ROOT
 
 CRATES = ROOT / "crates"
 # Whose definitions the contracts name that README's table of promises leads to.
-STATING = ["auction", "auction_runs", "house", "house_laws", "house_rows", "lives", "office", "pages", "pages_laws", "pages_text",
-           "proxy", "settle", "site", "site_acts", "site_audit", "site_connections", "site_replies", "site_request", "site_results",
-           "site_serve", "steps", "store", "store_files", "store_house", "store_rows", "tree_order", "wire"]
+STATING = ["auction", "auction_runs", "auction_words", "house", "house_laws", "house_rows", "lives", "office", "pages",
+           "pages_laws", "pages_text", "proxy", "settle", "site", "site_acts", "site_audit", "site_connections", "site_replies",
+           "site_request", "site_results", "site_serve", "steps", "store", "store_files", "store_house", "store_rows",
+           "tree_order", "wire"]
 ROUND = 500
 
 
