@@ -39,6 +39,9 @@ returns-in-Some-clause-value c =
     some_number (found_of c.args.words.now) c.args.name.now _ c.in-Some.number refl
     (λ none. sym is ∙ e.none none) (λ t h. subst (λ (o : Option ℕ). ReadsOne Gives t o) is (e.value t h))
 
+pub returns-in-Some-clause-within : goal.returns-in-Some-clause-within
+returns-in-Some-clause-within c = (omega arith, omega arith)
+
 pub returns-in_default-clause-missing : goal.returns-in_default-clause-missing
 returns-in_default-clause-missing c = λ n given within.
     let small : n < 2 ^ 64 = omega arith in
