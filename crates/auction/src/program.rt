@@ -142,7 +142,7 @@ fn start_over<F: KeepInFile, M: KeepInMemory, C: Listen>(
             let (status, _) = do_task::<F, M, C>(rt, alloc, &task, first);
             status
         }
-        // Words that ask for nothing are refused there.
+        // It is never so, by `given` of `read_task`.
         Ok(None) => REFUSED,
         Err(error) => refuse(rt, &error),
     }

@@ -59,7 +59,8 @@ fn zone(alloc: Global, rule: &str) -> Result<Text, SettingsFault>
     ensures text { IfOk result (λ text. text ≡ rule.now) }
     ensures readable { IfOk result IsReadable }
     ensures unreadable { IsErrOf result SettingsFault.Zone ↔ ¬ (IsReadable rule.now) }
-    ensures fault { IfErr result (λ fault. (fault ≡ SettingsFault.Memory) ⊎ (fault ≡ SettingsFault.Zone)) }
+    ensures fault { IfErr result (λ fault. (fault ≡ SettingsFault.Memory)
+        ⊎ (fault ≡ SettingsFault.Zone)) }
 {
     match Zone::read(rule) {
         Ok(_) => copy_of(alloc, rule),

@@ -5,8 +5,8 @@ use crate::failure::Failure;
 use crate::source::Source;
 use std::io::Read;
 
-/// A reader of std as a source. Any error of the reader is a failure, want of memory and an
-/// interrupted call among them.
+/// A reader of std as a source. Any error of the reader is a failure, also an interrupted call and
+/// one that is out of memory.
 #[derive(Drop)]
 pub struct Reading<R: Read> {
     reader: R,

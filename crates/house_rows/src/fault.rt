@@ -9,7 +9,7 @@ use thiserror::Error;
 /// Why a keep doesn't answer.
 #[derive(Clone, Copy, Debug, PartialEq, Eq, Error)]
 pub enum KeepFault {
-    /// Memory was wanted. Nothing changed.
+    /// Memory ran out. Nothing changed.
     #[error("memory is wanted")]
     Memory,
     /// The database failed, in this call or an earlier one. Every call answers this until the file is opened again.

@@ -14,7 +14,7 @@ pub enum ScriptFault {
     /// A line is neither a command nor a question.
     #[error("a line is no part of a script")]
     Script,
-    /// Memory was wanted.
+    /// Memory ran out.
     #[error("memory is wanted")]
     Memory,
     /// The keep answered another fault than memory.

@@ -3,7 +3,7 @@
 //! A command is `MOMENT CALLER NAME WORD..`, and its answer `ok`, or the refusal's name, for `Low` with the
 //! floor. `times N` before it gives it N times, until it is refused, `#` in it being the number of the time,
 //! from 1; the answer is the refusal, or `ok`. A question is `? NAME WORD..`, and its answer `-` where there is
-//! no such row. Where memory is wanted the answer is `Memory`, and nothing is changed.
+//! no such row. Where memory runs out the answer is `Memory`, and nothing is changed.
 //!
 //! `new` begins with an empty house. So does `record`, and from then on `fill` goes on with a house
 //! that is filled with the changes so far; its answer is `ok`. An empty line, and one that begins

@@ -192,7 +192,7 @@ pub makes_damaged : {X : Type 0} (old new wanted : X) (is_free : Type 0) → (is
 unfolding fault_of
 makes_damaged old new wanted is_free taken left = record { ok = tt; err = left; free = tt; damaged = λ e. taken; taken = λ not_free. refl; store = damaged_not_store }
 
--- where the key was free, a failed put wanted memory
+-- where the key was free, a put fails only where it is out of memory
 pub fault_is_memory : {X : Type 0} (old new wanted : X) (is_free : Type 0) (fault : KeepFault) → is_free → Makes (Err fault) old new wanted is_free → fault ≡ Memory
 fault_is_memory old new wanted is_free Memory free made = refl
 fault_is_memory old new wanted is_free Store free made = absurd (made.store refl)

@@ -169,7 +169,7 @@ fn count_of(counts: &[Ratings], member: u64) -> Ratings
     }
 }
 
-// One more rating. A count that no number can hold is want of memory.
+// One more rating. A count that no number can hold counts as out of memory.
 fn one_more(count: Ratings, rating: Rating) -> Result<Ratings, KeepFault>
     ensures value { IfOk result (λ r. r ≡ with_rating rating count) }
     ensures memory { IfErr result (λ e. e ≡ fault.Memory) }

@@ -12,7 +12,7 @@ pub enum PageFault {
     /// The keep didn't answer.
     #[error("{0}")]
     Keep(KeepFault),
-    /// Memory was wanted for the tree.
+    /// Memory for the tree ran out.
     #[error("memory is wanted")]
     Memory,
 }

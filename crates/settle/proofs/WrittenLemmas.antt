@@ -18,7 +18,7 @@ then_begins : (a b c : Option (List ℕ)) (s t : List ℕ) → Appends a b s →
 then_begins a b c s t h (n, within, k) =
     (length s + n, omega (arith, within, length-append s t), rw (take-append-add s t n) (Appends-trans a b c s (take n t) h k))
 
--- nothing was written, for want of memory
+-- nothing was written, because it was out of memory
 pub none_written : (a : Option (List ℕ)) (p : Bool) (text : List ℕ) → IsWritten a a p p (Err Memory) text
 none_written a p text = record {
   whole = tt;

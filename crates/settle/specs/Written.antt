@@ -12,7 +12,7 @@ pub record IsWritten (old new : Option (List ℕ)) (was is : Bool) (result : Res
   pub going : OnOk result (is ≡ false)
   -- else it took a beginning, which may be empty
   pub part : AppendsBeginning old new text
-  -- Write is the fault where the sink is failed, and want of memory does not fail it
+  -- Write is the fault where the sink is failed, and being out of memory does not fail it
   pub write : IsErrOf result Write → is ≡ true
   pub memory : IsErrOf result Memory → is ≡ was
   pub only : IfErr result (λ e. (e ≡ Write) ⊎ (e ≡ Memory))

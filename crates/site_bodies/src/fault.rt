@@ -5,6 +5,6 @@
 pub enum BodyFault {
     /// It is no object of JSON.
     NoObject,
-    /// Memory was wanted.
+    /// Memory ran out.
     Memory,
 }

@@ -63,7 +63,7 @@ fn values_under<'v>(value: &'v Value, name: &str) -> Option<&'v Vec<Value>>
 }
 
 /// The field of a name of the object that the bytes are, if it is an array of objects which each
-/// have whole numbers from 0 to 2^64 - 1 under two names. What else these objects have is read over.
+/// have whole numbers from 0 to 2^64 - 1 under two names. What else these objects have is skipped.
 pub fn read_pairs(
     alloc: Global,
     bytes: &[u8],

@@ -149,7 +149,7 @@ pub reply_served : (zone : Zone) (closes : Bool) (r : Reply RequestFault)
 unfolding reply_text
 reply_served zone closes r = by_status (reply_status r) _ closes _ (replies r)
 
--- want of memory has the status 503
+-- out of memory has the status 503
 pub memory_reported : (closes : Bool)
     → is_refusal_of_memory (fault_text keep_fault.Memory closes) ≡ true
 unfolding fault_text

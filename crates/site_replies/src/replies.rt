@@ -32,8 +32,8 @@ impl ReplyWriter {
         }
     }
 
-    /// Appends the bytes of a reply; `closes` says whether the connection ends after it. The one
-    /// fault is want of memory. After an `Err` the buffer has what it had.
+    /// Appends the bytes of a reply; `closes` says whether the connection ends after it. The only
+    /// fault is to be out of memory. After an `Err` the buffer has what it had.
     #[tactic(auto, unfolding(crate::specs::Texts::reply_text))]
     pub fn write(
         &mut self,

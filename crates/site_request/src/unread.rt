@@ -16,7 +16,7 @@ pub enum Wrong {
 pub enum Unread {
     /// The body is wrong.
     Wrong(Wrong),
-    /// Memory was wanted.
+    /// Memory ran out.
     Memory,
 }
 

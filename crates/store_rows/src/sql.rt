@@ -15,8 +15,8 @@ use house_rows::KeepFault;
 use sqlite::types::ValueRef;
 use sqlite::{Alter, Connection, Error, ErrorCode, Row, Transaction};
 
-/// Whether the connection still serves: a failure of the disk shuts it, and after want of memory
-/// nothing else says that it is open.
+/// Whether the connection still serves: a failure of the disk shuts it, and where it was out of
+/// memory nothing else says that it is open.
 pub fn is_still_open<S: Alter>(conn: &mut Connection<S>) -> bool
     ensures same { HasCleanDisk (state S.Store conn.new)
         → IsTrue result
@@ -29,7 +29,7 @@ pub fn is_still_open<S: Alter>(conn: &mut Connection<S>) -> bool
     conn.prepare("SELECT 1").is_ok()
 }
 
-/// Why a statement, a commit or an opening failed: memory was wanted, or else the store failed.
+/// Why a statement, a commit or an opening failed: it was out of memory, or else the store failed.
 pub fn fault_of(error: Error) -> KeepFault
     ensures memory { (result ≡ Memory) ↔ (error ≡ SqliteFailure OutOfMemory) }
     ensures sound { result ≢ Damaged }

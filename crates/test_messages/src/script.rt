@@ -15,7 +15,7 @@ pub(crate) enum MessageFault {
     /// A line has no meaning, or the script isn't text.
     #[error("a line is no part of a script")]
     Script,
-    /// Memory was wanted.
+    /// Memory ran out.
     #[error("memory is wanted")]
     Memory,
     /// A stream has no end.

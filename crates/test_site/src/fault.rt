@@ -14,7 +14,7 @@ pub(crate) enum SiteFault {
     /// A line has no meaning, or a command is refused that has to be accepted.
     #[error("a line is no part of a script")]
     Script,
-    /// Memory was wanted.
+    /// Memory ran out.
     #[error("memory is wanted")]
     Memory,
     /// The keep answered another fault than memory.

@@ -6,7 +6,7 @@ ghost use Rattle.status.specs.declared.Status.TheVariants.{InternalServerError, 
 
 use crate::fault::WireFault;
 
-/// The response where memory was wanted. It takes none itself.
+/// The response of a house that is out of memory. It takes none itself.
 pub fn no_memory(closes: bool) -> &'static [u8]
     ensures { result.now ≡ response_bytes ServiceUnavailable None closes (error_body (codes "memory")) }
 {

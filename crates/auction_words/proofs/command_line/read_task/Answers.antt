@@ -19,7 +19,7 @@ met_is : (app : App) (words : List Text) (m : ArgMatches) → app ≡ house_app 
 met_is app words m same matches =
     (matches (ap is_simple same ∙ house_is_simple)).1 ∙ ap (λ (a : App). subcommand_of a words) same
 
--- a parse refuses words that it takes only for want of memory
+-- a parse refuses words that it takes only where it is out of memory
 refused : {X : Type 0} (r : Result X Error) (fault : Error) (app : App) (words : List Text) → IsErrAnd r (λ error. error ≡ fault)
     → app ≡ house_app → (takes app words ≡ true → kind_of fault ≡ OutOfMemory)
     → IfErr r (λ error. takes house_app words ≡ true → IsMemoryIfAsked (subcommand_of house_app words) error)

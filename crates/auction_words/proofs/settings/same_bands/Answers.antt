@@ -5,7 +5,7 @@ use Rattle.steps.specs.declared.fault.BandsFault.{BandsFault}
 use Rattle.steps.specs.declared.fault.BandsFault.TheVariants.{Csv, Head, Row, First, Order, Falls, TooMany, Device, Memory}
 use Rattle.auction_words.proofs.settings.same_bands.Goals as goal
 
--- a table is taken, so no other fault than want of memory is one of its rows
+-- a table is taken, so out of memory is the only fault of its rows
 other_fault : (rows : List Band) (r : Result (List Band) BandsFault) (fault : BandsFault)
     → IsBandTable rows → (r ≢ Err Memory → AreJudged rows r) → r ≡ Err fault → fault ≢ Memory → ⊥
 other_fault rows r fault valid judged is other =
