@@ -143,7 +143,7 @@ def true_at_once(program, folder):
     with furnished(program, folder) as gateway:
         with readers(gateway, "house", "ana", "ben", "cid", wrong=None, before=truth.BEFORE) as all_of_them:
             house, ana, ben, cid = all_of_them
-            listings = truth.all_of_it(gateway, ana, ben, cid)
+            listings = truth.all_of_it(gateway, *all_of_them)
             pages.all_of_it(gateway, listings, *all_of_them)
             notices.gives_an_address(ben, gateway)
             notices.tells_members(ben, gateway, listings, mails)

@@ -191,6 +191,21 @@ def taken_and_unread(ben, listings):
     ben.wait_for_text("You lead. Your maximum is 12.00")
 
 
+def made_and_unread(house):
+    """A member and a category that the house has made are told so, also where the read after it fails."""
+    for part, field, name, button, done in (("Members", "Name", "Dora", "Register", "Registered as member 5."),
+                                            ("The house", "Name of the category", "Prints", "Add", "The category is there.")):
+        house.go_to(part)
+        house.write("textbox", field, name)
+        block(house, "house")
+        house.press("button", button)
+        house.wait_for_text(done)
+        block(house)
+        house.go_to("Items")
+        house.go_to(part)
+        house.wait_for("link", name)
+
+
 def lists_come_anew(cid, ana, gateway, listings):
     """Lists, answers and counts come anew by themselves."""
     number = listings.list("A map in lists", seconds=600)
@@ -381,7 +396,7 @@ def named_spreadsheet(text, gateway):
         check(f"formulas in {row}", [cell for cell in row if cell[:1] in tuple("=+-@\t\r")], [])
 
 
-def all_of_it(gateway, ana, ben, cid):
+def all_of_it(gateway, house, ana, ben, cid):
     listings = Listings(gateway)
     ben.resize(390)
     failed_read(ben, listings)
@@ -391,6 +406,7 @@ def all_of_it(gateway, ana, ben, cid):
     ends_by_the_clock(ben, listings)
     ends_of_others(ben, listings)
     taken_and_unread(ben, listings)
+    made_and_unread(house)
     lists_come_anew(cid, ana, gateway, listings)
     comes_back(ben, ana, gateway, listings)
     reads_end_with_the_page(ben)

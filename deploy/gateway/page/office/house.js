@@ -39,7 +39,7 @@ function categoryForm(refill) {
     act: async (/** @type {string} */ name) => {
       await send("/categories", { name });
       field.clear();
-      await refill();
+      await refill().catch(() => {});
       return say("house.category_added");
     },
   }).node;

@@ -71,7 +71,7 @@ function registerForm(more) {
     act: async (/** @type {string} */ name) => {
       const { member: number } = await send("/members", { name });
       field.clear();
-      await more();
+      await more().catch(() => {});
       return say("members.registered", { member: String(number) });
     },
   }).node;
