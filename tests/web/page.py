@@ -231,6 +231,7 @@ def after_the_end(gateway, house, ana, ben, cid, pictures, folder):
     play.closes(house)
     play.wins(cid)
     play.loses(ben)
+    play.is_to_rate(ana)
     play.statements(gateway, ana, ben, cid)
     picture(ana, pictures, "statement", "statement", 1000)
     picture(ben, pictures, "bids", "bids", 820)

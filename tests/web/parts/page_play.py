@@ -241,6 +241,14 @@ def loses(ben):
     ben.wait_for_text("Somebody else got this. Your maximum was 200.00.")
 
 
+def is_to_rate(ana):
+    """The seller is asked to rate the buyer, below the button by which it watches, and with room between both."""
+    ana.go_to("My listings")
+    ana.go_to(TITLE)
+    heading, button = ana.wait_for("heading", "Rate Cid"), ana.wait_for("button", "Watch")
+    check("room above the rating", ana.box(heading)[1] - ana.box(button)[3] >= 8, True)
+
+
 def statements(gateway, ana, ben, cid):
     """What each is shown of the sale, line by line."""
     line = {}
