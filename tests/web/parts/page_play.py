@@ -233,6 +233,8 @@ def wins(cid):
     cid.write("textbox", "In a few words", "Well packed")
     cid.press("button", "Rate this sale")
     cid.wait_for_text("Good. Well packed")
+    cid.go_to("Ana")
+    cid.wait_for_text(f"Good : Well packed for {TITLE} , by Cid")
 
 
 def loses(ben):

@@ -4,7 +4,7 @@ import { each, read, send, whole } from "../exchange/api.js";
 import { link, make, memberLink, nameOrNone, quote } from "../elements/dom.js";
 import { textField } from "../elements/fields.js";
 import { action, form } from "../elements/form.js";
-import { titlesOf } from "../exchange/known.js";
+import { namesOf, titlesOf } from "../exchange/known.js";
 import { ratingInWords } from "../items/rating.js";
 import { showOpenItems } from "../items/seller.js";
 import { phrase, say } from "../words/language.js";
@@ -14,11 +14,12 @@ const AT_ONCE = 50;
 /** @param {Member} one */
 const countsOf = ({ plus, zero, minus }) => say("member.counts", { plus, zero, minus });
 
-/** @param {Feedback[]} list @param {TextsByNumber} titles */
-function feedbackList(list, titles) {
+/** @param {Feedback[]} list @param {TextsByNumber} titles @param {TextsByNumber} names */
+function feedbackList(list, titles, names) {
   const entries = list.map(one => make("li", {},
     make("p", {}, make("strong", {}, ratingInWords(one.rating)), one.text ? ": " : "", quote(one.text)),
-    make("p", { class: "soft" }, phrase("member.for_item", { item: link(`item/${one.item}`, quote(titles.get(one.item))) }))));
+    make("p", { class: "soft" }, phrase("member.for_item", { item: link(`item/${one.item}`, quote(titles.get(one.item))),
+      name: memberLink(one.from, names.get(one.from)) }))));
   return entries.length ? make("ul", { class: "talk" }, ...entries) : make("p", { class: "soft" }, say("member.unrated"));
 }
 
@@ -38,10 +39,11 @@ export async function member(visit, number) {
   /** @type {[Member, Feedback[], Element]} */
   const [one, list, offer] = await Promise.all([read(`/members/${number}`),
     whole(`/members/${number}/feedback`, "feedback"), onOffer(visit, Number(number))]);
-  const titles = await titlesOf(list.map(feedback => feedback.item));
+  const [titles, names] = await Promise.all([titlesOf(list.map(feedback => feedback.item)),
+    namesOf(list.map(feedback => feedback.from))]);
   return { title: nameOrNone(one.name), nodes: [
     make("p", {}, say("member.rated", { member: String(one.member), counts: countsOf(one) })),
-    make("section", { class: "box" }, make("h2", {}, say("member.ratings")), feedbackList(list, titles)), offer] };
+    make("section", { class: "box" }, make("h2", {}, say("member.ratings")), feedbackList(list, titles, names)), offer] };
 }
 
 /** @param {Member} one */
