@@ -235,6 +235,8 @@ def wins(cid):
     cid.wait_for_text("Good. Well packed")
     cid.go_to("Ana")
     cid.wait_for_text(f"Good : Well packed for {TITLE} , by Cid")
+    cid.go_to(TITLE)
+    cid.wait_for_text("from Ana (2 good, 0 neither, 0 bad)")
 
 
 def loses(ben):

@@ -27,6 +27,15 @@ class Texts {
     answer.then(text => this.found.set(number, text), () => this.answers.delete(number));
     return answer;
   }
+
+  /**
+   * Keeps a text that came with something else.
+   * @param {number} number @param {string} text
+   */
+  keep(number, text) {
+    this.answers.set(number, Promise.resolve(text));
+    this.found.set(number, text);
+  }
 }
 
 const names = new Texts(async number => nameOrNone((await read(`/members/${number}`)).name));
@@ -42,6 +51,16 @@ export const nameOf = number => names.get(number);
  * @param {number} number
  */
 export const nameAtHand = number => names.found.get(number);
+
+/**
+ * A member as it is now: its name stays, and how it was rated doesn't.
+ * @param {number} number @returns {Promise<Member>}
+ */
+export async function memberNow(number) {
+  const member = await read(`/members/${number}`);
+  names.keep(number, nameOrNone(member.name));
+  return member;
+}
 
 /** @param {number} member */
 export const nameByNumber = member => say("page.member", { member: String(member) });

@@ -2,7 +2,7 @@
 // The page of an item. What may change is read again and again, and a change is announced.
 import { read } from "../exchange/api.js";
 import { caller } from "../exchange/caller.js";
-import { categories, nameOf, ownBid, reserveOf } from "../exchange/known.js";
+import { categories, memberNow, nameOf, ownBid, reserveOf } from "../exchange/known.js";
 import { link, make, memberLink, nameOrNone, paragraphs, quote, replace, titleOrNone } from "../elements/dom.js";
 import { tell } from "../elements/news.js";
 import { notify } from "../elements/notify.js";
@@ -12,6 +12,7 @@ import { phrase, say } from "../words/language.js";
 import { money } from "../words/money.js";
 import { facts } from "./facts.js";
 import { offers } from "./offer.js";
+import { countsInWords } from "./rating.js";
 import { salePart } from "./sale.js";
 import { showOpenItems } from "./seller.js";
 import { standing, stateInWords, stateOf } from "./standing.js";
@@ -158,11 +159,11 @@ function itemParts(first, conversation) {
 
 /** @param {WholeItem} item */
 async function byline(item) {
-  const [list, seller] = await Promise.all([categories(), nameOf(item.seller)]);
+  const [list, seller] = await Promise.all([categories(), memberNow(item.seller)]);
   const category = list.find(one => one.category === item.category);
   const name = category ? nameOrNone(category.name) : say("item.its_category");
   return phrase("item.byline", { category: link(`category/${item.category}`, quote(name)), lot: item.lot,
-    seller: memberLink(item.seller, seller) });
+    seller: memberLink(item.seller, nameOrNone(seller.name)), counts: countsInWords(seller) });
 }
 
 /** @param {WholeItem} item */

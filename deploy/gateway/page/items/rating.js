@@ -16,6 +16,12 @@ const RATINGS = [[1, "rating.good"], [0, "rating.neither"], [-1, "rating.bad"]];
 export const ratingInWords = rating => say(RATINGS.find(([value]) => value === rating)?.[1] ?? "rating.neither");
 
 /**
+ * How often a member was rated with each.
+ * @param {Member} one
+ */
+export const countsInWords = ({ plus, zero, minus }) => say("member.counts", { plus, zero, minus });
+
+/**
  * What the caller gave to the other party for this item: the list begins at the item.
  * @param {number} item @param {number} other @returns {Promise<Feedback | undefined>}
  */

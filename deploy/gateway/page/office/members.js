@@ -5,14 +5,11 @@ import { link, make, memberLink, nameOrNone, quote } from "../elements/dom.js";
 import { textField } from "../elements/fields.js";
 import { action, form } from "../elements/form.js";
 import { namesOf, titlesOf } from "../exchange/known.js";
-import { ratingInWords } from "../items/rating.js";
+import { countsInWords, ratingInWords } from "../items/rating.js";
 import { showOpenItems } from "../items/seller.js";
 import { phrase, say } from "../words/language.js";
 
 const AT_ONCE = 50;
-
-/** @param {Member} one */
-const countsOf = ({ plus, zero, minus }) => say("member.counts", { plus, zero, minus });
 
 /** @param {Feedback[]} list @param {TextsByNumber} titles @param {TextsByNumber} names */
 function feedbackList(list, titles, names) {
@@ -42,13 +39,13 @@ export async function member(visit, number) {
   const [titles, names] = await Promise.all([titlesOf(list.map(feedback => feedback.item)),
     namesOf(list.map(feedback => feedback.from))]);
   return { title: nameOrNone(one.name), nodes: [
-    make("p", {}, say("member.rated", { member: String(one.member), counts: countsOf(one) })),
+    make("p", {}, say("member.rated", { member: String(one.member), counts: countsInWords(one) })),
     make("section", { class: "box" }, make("h2", {}, say("member.ratings")), feedbackList(list, titles, names)), offer] };
 }
 
 /** @param {Member} one */
 const entryOf = one => make("li", {}, memberLink(one.member, nameOrNone(one.name)),
-  make("span", { class: "soft" }, ` ${say("member.in_list", { member: String(one.member), counts: countsOf(one) })}`));
+  make("span", { class: "soft" }, ` ${say("member.in_list", { member: String(one.member), counts: countsInWords(one) })}`));
 
 // The list of all members, fifty more at each call. The house tells none, so each is read by its number.
 function memberList() {
