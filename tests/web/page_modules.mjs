@@ -17,7 +17,10 @@ import { sentence } from "../../deploy/gateway/page/words/refusals.js";
 
 const wordsOf = name => JSON.parse(readFileSync(new URL(`../../deploy/gateway/page/words/${name}.json`, import.meta.url), "utf8"));
 
-beforeEach(() => speak(wordsOf("en")));
+beforeEach(() => {
+  speak(wordsOf("en"));
+  setCurrency("");
+});
 
 const table = (rows, work) => rows.forEach(([given, wanted]) => assert.deepEqual(work(given), wanted, JSON.stringify(given)));
 
@@ -28,6 +31,15 @@ test("amounts are read as they are meant, or not at all", () => table([
   ["12 50", null], ["1 2", null], ["12 500 0", null], ["1  234", null], ["1,234", null], ["1.234", null], ["1 234,567", null],
   ["", null], ["12.", null], [".5", null], ["12 €", null], ["-1", null], ["1e3", null],
 ], cents));
+
+test("an amount may have the name of the money after it or before it, and nowhere else", () => {
+  setCurrency("€");
+  table([
+    ["12", 1200], ["12 €", 1200], ["12,50€", 1250], [" € 12.50 ", 1250], ["€12", 1200], ["1.234,50\u202f€", 123450],
+    [money(123450), 123450],
+    ["12€50", null], ["1 € 234", null], ["€ 12 €", null], ["12 € €", null], ["€", null], ["€ -1", null], ["12 $", null],
+  ], cents);
+});
 
 test("amounts are shown with two decimals", () => table([
   [0, "0.00"], [5, "0.05"], [123450, "1,234.50"], [1_000_000_000, "10,000,000.00"],

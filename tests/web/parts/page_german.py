@@ -90,7 +90,7 @@ def bids(ben, listings, mails):
     region = ben.wait_for("region", "Preis und Gebote")
     shown = " ".join(ben.said(region).split())
     check("an item", [words in shown for words in ("Offen", "Startpreis", "1.234,50 Taler", "Noch keine Gebote", "Restzeit:")], [True] * 5)
-    ben.write("textbox", "Ihr Höchstbetrag", "1300,50")
+    ben.write("textbox", "Ihr Höchstbetrag", "1300,50 Taler")
     ben.page.keys([ENTER])
     ben.wait_for_text("Ihr Gebot ist angenommen, und Sie führen mit 1.234,50 Taler.")
     ben.wait_for_text("Sie führen. Ihr Höchstbetrag ist 1.300,50 Taler, und niemand sonst sieht ihn.")

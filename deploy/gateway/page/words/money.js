@@ -41,12 +41,25 @@ const SPACED = /^(\d{1,3}(?:[ \u00a0\u202f]\d{3})+)(?:[.,](\d{1,2}))?$/;
 const GROUPED = [/^(\d{1,3}(?:,\d{3})+)\.(\d{1,2})$/, /^(\d{1,3}(?:\.\d{3})+),(\d{1,2})$/];
 
 /**
+ * What somebody wrote, without the name of the money after it or before it.
+ * @param {string} text
+ */
+function withoutCurrency(text) {
+  const written = text.trim();
+  if (written.endsWith(currency)) {
+    return written.slice(0, written.length - currency.length).trim();
+  }
+  return written.startsWith(currency) ? written.slice(currency.length).trim() : written;
+}
+
+/**
  * The cents that somebody wrote, or null. 1,234 and 1.234 may mean two amounts, so they are none. A space parts threes
  * alone: 12 50 may be a slip for 12.50.
  * @param {string} text @returns {number | null}
  */
 export function cents(text) {
-  const found = [PLAIN, SPACED, ...GROUPED].map(form => form.exec(text.trim())).find(match => match !== null);
+  const written = withoutCurrency(text);
+  const found = [PLAIN, SPACED, ...GROUPED].map(form => form.exec(written)).find(match => match !== null);
   if (!found) {
     return null;
   }
