@@ -10,9 +10,10 @@ fail() {
     exit 1
 }
 
+# It can make no others, so whoever trusts it trusts this host alone.
 make_certificate() {
     openssl req -x509 -newkey ec -pkeyopt ec_paramgen_curve:prime256v1 -nodes -keyout key.pem -out cert.pem -days 365 -subj "/CN=$host" \
-        -addext "subjectAltName=DNS:$host" 2> /dev/null
+        -addext "subjectAltName=DNS:$host" -addext basicConstraints=critical,CA:FALSE 2> /dev/null
 }
 
 is_of_older_package() {

@@ -44,7 +44,8 @@ HOME, FORM = "https://lindow.example/", "https://lindow.example/sign-in.html"
 HOUSES = "/var/lib/auction/fell/house /var/lib/auction/lindow/house /var/lib/auction/mere/house /var/lib/auction/tarn/house "
 WANTED = {
     "installed": "0", "set up lindow": "0", "set up tarn": "0", "members of lindow": "house 0 ana 1 ben 2 ",
-    "members of tarn": "house 0 ana 1 ben 2 ", "category": '{"category":1}', "item": '{"item":1}', "due": '{"item":2}',
+    "members of tarn": "house 0 ana 1 ben 2 ", "certificate of lindow": "CA:FALSE", "certificate of tarn": "CA:FALSE",
+    "category": '{"category":1}', "item": '{"item":1}', "due": '{"item":2}',
     "bid": '{"count":1,"floor":550,"leader":2,"price":500}', "another page": '{"error":"gateway","why":"foreign"}',
     "no sign-in": '{"error":"gateway","why":"sign-in"}', "another city": '{"error":"gateway","why":"sign-in"}',
     "the form": FORM, "a wrong password": f"{FORM}#wrong", "nobody": "", "signed in": HOME, "ben": '"member":2',

@@ -34,6 +34,7 @@ set_up() {
         account token "$1" "$login"
     done > "$1.tokens"
     say "members of $1" "$(cut -d ' ' -f 1,2 "$1.passwords" | tr '\n' ' ')"
+    say "certificate of $1" "$(openssl x509 -in "/etc/auction/$1/cert.pem" -noout -ext basicConstraints | grep -o 'CA:.*')"
     wait_until "ask $1 ben /me/bids/1 | grep -q bids"
 }
 
