@@ -30,15 +30,21 @@ make_site() {
     chmod 644 site.conf
 }
 
-# The folder of what nginx serves beside the page, and of what the jobs write that run as nginx does.
+as_www() {
+    runuser -u www-data -- "$@"
+}
+
+# The folder of what nginx serves beside the page, and of what the jobs write that run as nginx does. It is www-data's, who may have
+# put links there, so www-data writes into it: root would write what they lead to.
 make_files() {
     install -d -m 755 /var/lib/auction-page
-    install -d -o www-data -g www-data -m 700 "$files" "$files/addresses"
-    echo "https://$host" > "$files/origin"
-    chmod 644 "$files/origin"
-    ln -sfn "/run/auction/$city" "$files/run"
+    install -d -o www-data -g www-data -m 700 "$files"
+    as_www mkdir -p "$files/addresses"
+    as_www rm -f "$files/origin"
+    echo "https://$host" | as_www tee "$files/origin" > /dev/null
+    as_www ln -sfn "/run/auction/$city" "$files/run"
     # Jobs and nginx find the city's own words here.
-    ln -sfn "/etc/auction/$city" "$files/page"
+    as_www ln -sfn "/etc/auction/$city" "$files/page"
     [ -e city.json ] || install -m 644 "$share/page/city.json" city.json
 }
 

@@ -249,6 +249,12 @@ make_older_city() {
     printf 'server {\n    auth_basic_user_file /etc/auction/fell/users;\n}\n' > /etc/auction/fell/site.conf
 }
 
+# A link that whoever runs as www-data has put where an upgrade writes.
+lay_link() {
+    echo kept > /etc/auction/kept
+    runuser -u www-data -- ln -sf /etc/auction/kept /var/lib/auction-page/lindow/origin
+}
+
 install_newer() {
     say upgraded "$(apt-get install -y --no-install-recommends ./newer/auction_*.deb > upgrade.log 2>&1; echo $?)"
     wait_until 'ask lindow ben /house | grep -q clock'
@@ -256,6 +262,7 @@ install_newer() {
 
 upgrade() {
     make_older_city
+    lay_link
     for unit in auction@lindow auction-queue@lindow auction@tarn; do
         systemctl show -P MainPID "$unit" > "$unit.before"
     done
@@ -265,6 +272,8 @@ upgrade() {
         say "the same $unit" "$([ "$(systemctl show -P MainPID "$unit")" = "$(cat "$unit.before")" ]; echo $?)"
     done
     say "program that runs" "$(readlink "/proc/$(systemctl show -P MainPID auction@lindow)/exe")"
+    say "behind a link" "$(cat /etc/auction/kept)"
+    say "in its place" "$(cat /var/lib/auction-page/lindow/origin)"
     say "header of the newer package" "$(header referrer-policy)"
     say "after the upgrade" "$(price)"
     wait_until 'browse fell /sign-in.html | grep -q Password'
