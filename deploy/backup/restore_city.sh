@@ -63,6 +63,8 @@ done
 for file in "$before" "/var/lib/auction/$city/house.before"; do
     [ ! -e "$file" ] || fail "$file is there already"
 done
+# The house would be put where the user auction has it lead.
+[ ! -L "/var/lib/auction/$city/house" ] || fail "/var/lib/auction/$city/house is a link"
 stop
 restore_house
 put_all_aside

@@ -3,7 +3,7 @@
 
 COPY is a file that copy_house.py has made. The house that was there is kept as HOUSE.before, and the copy gets its owner and its
 rights. Where none was there, it gets the owner of the folder, and no other user reads it. It is refused where SQLite finds a
-fault in the copy, where the copy is no house, where somebody serves the house, and where HOUSE.before is there already.
+fault in the copy, where the copy is no house, where somebody serves the house, and where HOUSE.before is there already, or its log.
 """
 import contextlib
 import os
@@ -32,6 +32,14 @@ def give_to(owner, file):
         os.chown(file, status.st_uid, status.st_gid)
 
 
+def copy_anew(source, target):
+    """Copies into a new file: root must not follow a link that the owner of the folder has put there."""
+    with source.open("rb") as read:
+        remove(target)
+        with target.open("xb") as written:
+            shutil.copyfileobj(read, written)
+
+
 def put_aside(house, before):
     """Keeps the house that is there under another name, as one file. What is damaged is kept as it is, with its log."""
     log = log_of(house)
@@ -58,10 +66,11 @@ def restore_house(copy, house):
     log = log_of(copy)
     if log.exists() and log.stat().st_size >= LEAST_LOG:
         raise Unsound(f"{copy} has a log beside it: copy_house.py makes one file")
-    if before.exists():
-        raise Unsound(f"{before} is there already")
+    for file in (before, log_of(before)):
+        if os.path.lexists(file):
+            raise Unsound(f"{file} is there already")
     try:
-        shutil.copyfile(copy, begun)
+        copy_anew(copy, begun)
         make_one_file(begun)
         keep(begun)
         if house.exists():

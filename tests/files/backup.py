@@ -5,12 +5,12 @@ A client sends commands one after the other, each of which makes a row, while th
 given) with a pause between file and log, so that the log is written into the file meanwhile now and then. Each copy has to be one
 file, sound for SQLite, with the rows of all that was answered before it was begun, and of no more than what was sent before it
 was done. What SQLite itself says of a served house is that it is locked, and that disturbs nobody. A copy is not restored over a
-house that is served; over one that isn't, or that is damaged, it is, and the program serves it. What is no house of this version
-is neither copied nor restored, and a copy that finds no room leaves nothing behind. A city's copy has its house, its accounts and
-its settings, and old ones are dropped. A house that VACUUM has compacted is one. One that has lost a page is none, and the rows
-that SQLite reads are made one again, by the script and by `.recover`, where the command `sqlite3` has that. Where a superuser runs
-this, a restored house is its folder's owner's; and where btrfs-progs is there, snapshots of a file system of its own are copied
-too, also beside what a killed one has left. The last line is 'N checks, M wrong'.
+house that is served; over one that isn't, or that is damaged, it is, and the program serves it; no link is followed meanwhile. What
+is no house of this version is neither copied nor restored, and a copy that finds no room leaves nothing behind. A city's copy has
+its house, its accounts and its settings, and old ones are dropped. A house that VACUUM has compacted is one. One that has lost a
+page is none, and the rows that SQLite reads are made one again, by the script and by `.recover`, where the command `sqlite3` has
+that. Where a superuser runs this, a restored house is its folder's owner's; and where btrfs-progs is there, snapshots of a file
+system of its own are copied too, also beside what a killed one has left. The last line is 'N checks, M wrong'.
 
 Promise: none
 """
@@ -186,6 +186,7 @@ def replaced(program, folder):
     (place / "house-wal").write_bytes(bytes(5000))
     check("restored over what is damaged", script("restore_house.py", folder / "kept", place / "house"), (0, "restored", ""))
     check("what is kept", sorted(file.name for file in place.iterdir()), ["house", "house.before", "house.before-wal"])
+    linked(folder)
     if os.geteuid() == 0:
         other = folder / "of another"
         other.mkdir()
@@ -193,6 +194,23 @@ def replaced(program, folder):
         script("restore_house.py", folder / "kept", other / "house")
         status = (other / "house").stat()
         check("its owner and rights", (status.st_uid, status.st_gid, status.st_mode & 0o777), (1234, 5678, 0o600))
+
+
+def linked(folder):
+    """No link is followed that lies where a restore writes."""
+    place, behind = folder / "linked", folder / "behind links"
+    place.mkdir()
+    behind.write_text("kept")
+    (place / "house").write_text("damaged")
+    words = "restore_house.py", folder / "kept", place / "house"
+    for name, to in (("house.before", "nothing"), ("house.before-wal", behind.name)):
+        (place / name).symlink_to(folder / to)
+        check(f"{name} is a link", script(*words), (1, "", f"restore_house.py: {place.resolve() / name} is there already"))
+        (place / name).unlink(missing_ok=True)
+    for name in ("house.begun", "house.begun-wal"):
+        (place / name).symlink_to(behind)
+    check("restored beside links", script(*words), (0, "restored", ""))
+    check("behind them", (behind.read_text(), (folder / "nothing").exists()), ("kept", False))
 
 
 def make_city(root, house):

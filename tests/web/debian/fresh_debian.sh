@@ -24,6 +24,9 @@ say "fresh, restored again" "$(sh /usr/share/auction/restore_city.sh /trial/copy
 wait_until 'ask lindow ben /me/bids/1 | grep -q bids'
 say "fresh, the price again" "$(price)"
 say "fresh, a third time" "$(sh /usr/share/auction/restore_city.sh /trial/copy lindow 2>&1 | grep -o 'is there already')"
+install -d -o auction -g auction -m 700 /var/lib/auction/tarn
+runuser -u auction -- ln -s /etc/hostname /var/lib/auction/tarn/house
+say "fresh, over a link" "$(sh /usr/share/auction/restore_city.sh /trial/copy tarn 2>&1 | grep -o 'is a link')"
 say "fresh, killed by its filter" "$(journalctl -u auction@lindow -o cat | grep -c 'status=31/SYS')"
 say "fresh, failed" "$(systemctl list-units --failed --plain --no-legend)"
 say "seconds of a restore on a fresh machine, from its boot to the last bid" "$(($(date +%s) - begun))"
