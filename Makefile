@@ -99,7 +99,8 @@ help:
 	@echo "  make load      has PAGES pages of an item open in its last minute, through the gateway, while a member bids (needs wrk)"
 	@echo "  make page      plays an auction on the page of the gateway in Chromium, by the house and three members, in eight minutes"
 	@echo "  make backup    makes COPIES copies of a house that is served, and restores one"
-	@echo "  make service   gives the alert rules of the service what they have to tell of, and asks a house through its queue"
+	@echo "  make service   gives the alert rules of the service what they have to tell of, has its watch look at houses that are"
+	@echo "                 away, and asks a house through its queue"
 	@echo "  make replica   serves a house on a volume that three machines keep, kills them and cuts one off, as root, in two minutes;"
 	@echo "                 and has keepalived give the name of a city to another machine"
 	@echo "  make disks     has the disk of a house fail under bids, as root: one that is full, has I/O errors, or is cut off"
@@ -307,6 +308,7 @@ backup:
 service:
 	@echo "Debian's packages: $(SERVICE_PACKAGES)"
 	python3 tests/web/alerts.py
+	python3 tests/web/service_watch.py
 	python3 tests/web/service_queue.py crates/auction/out/auction
 
 replica:

@@ -63,8 +63,8 @@ fail_by_sign_in() {
     exit 1
 }
 
-# A queue that is started anew, as by an upgrade, breaks off what it has begun.
-answer=$(asked) || {
+# A queue that is started anew, as by an upgrade, breaks off what it has begun. A minute that has passed, 28, is long enough.
+answer=$(asked) || [ $? = 28 ] || {
     sleep 2
     answer=$(asked)
 }
