@@ -52,6 +52,17 @@ def pages(gateway):
     check("ben is himself", [number(gateway, cookie) for _ in range(5)], [gateway.numbers["ben"]] * 5)
 
 
+def address(gateway):
+    """A member's address is its own, and no browser that others use keeps it."""
+    sent = "ben@city.example"
+    put = gateway.head("ben", "PUT /address HTTP/1.1", [f"Content-Length: {len(sent)}", "Connection: close"]) + sent
+    check("an address is taken", gateway.raw(put)[:12], b"HTTP/1.1 201")
+    answer = gateway.raw(gateway.head("ben", "GET /address HTTP/1.1", ["Connection: close"]))
+    check("it is shown to ben", answer.split(b"\r\n\r\n")[1], sent.encode())
+    check("nobody keeps the address", b"Cache-Control: no-store" in answer, True)
+    check("it is taken away", gateway.ask("ben", "DELETE", "/address").status, 204)
+
+
 def wrong(gateway):
     """Whatever is wrong leads to the form again, says nothing else, and opens no session."""
     right = gateway.passwords["ben"]
@@ -155,4 +166,4 @@ def often(gateway):
     check("ben signs in elsewhere", leads_to(gateway.sign_in("ben")[0]), HOME)
 
 
-SIGN_IN = pages, wrong, elsewhere, sign_out, own_password, kept, by_the_time, often
+SIGN_IN = pages, address, wrong, elsewhere, sign_out, own_password, kept, by_the_time, often
