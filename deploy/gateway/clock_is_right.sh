@@ -19,6 +19,7 @@ ask_house() {
 # Tells both clocks where they are apart. A new house has 0.
 compare() {
     clock=$(ask_house /house | sed -n 's/.*"clock":\([0-9]*\).*/\1/p')
+    [ -n "$clock" ] || fail "the house isn't served"
     apart=$(($(date +%s) - clock))
     if [ "$clock" != 0 ] && { [ "$apart" -gt 86400 ] || [ "$apart" -lt -86400 ]; }; then
         echo "the clock of the house is $(date -d "@$clock" +%FT%T), the machine's $(date +%FT%T)"

@@ -85,6 +85,8 @@ def away(program, folder):
                 check(f"it is {day}", gateway.script("clock_is_right.sh", house, day)[0], wanted)
             check("a command then", command(gateway), '{"sold":0,"unsold":0}')
             gateway.stop()
+            status, lines, error = gateway.script("clock_is_right.sh", house)
+            check("not served", (status, lines, error.splitlines()[-1:]), (1, [], ["clock_is_right.sh: the house isn't served"]))
             check("started again", gateway.start()[::2], (0, ""))
         finally:
             gateway.stop()
