@@ -3,13 +3,19 @@
 # volume still keeps the other's lock. A house that the other one still serves is refused, and so nothing is served twice.
 set -eu
 city=$1
+unit=auction@$city.service
 
-for _ in $(seq 60); do
+# Whether the house is open here. Its program listens, at port 8080, once it has the lock; a process that waits for it may run long.
+is_open() {
+    grep -q '0100007F:1F90 00000000:0000 0A' "/proc/$(systemctl show -P MainPID "$unit")/net/tcp" 2> /dev/null
+}
+
+for _ in $(seq 180); do
     systemctl reset-failed "auction*@$city.*" 2> /dev/null || true
     # A start that systemd refuses is a try that failed.
-    systemctl start "auction@$city.service" || true
+    systemctl start "$unit" || true
     sleep 1
-    if systemctl is-active --quiet "auction@$city.service" && [ "$(systemctl show -P SubState "auction@$city.service")" = running ]; then
+    if is_open; then
         sh /usr/share/auction/setup.sh "$city" "$(cat "/etc/auction/$city/host")"
         exit 0
     fi
