@@ -1,10 +1,22 @@
-//! Pages in plain Rust, by `serde_json` and `derive`: `pages WHAT ROUNDS [NUMBER ..]` reads the public record of a house,
-//! and makes from its rows so many times the page of an item (`item N`), a category's items (`list C F`) or the record
-//! (`record`), whose text it prints at the end.
-use serde::{Deserialize, Serialize};
+//! Pages in plain Rust, by `serde_json` and `derive`: `pages` reads the public record of a house, which is a line, and then orders,
+//! each a line `COUNT STEPS WHAT`. So many times it makes from the rows of that record the page of an item (`item N`), a category's
+//! items (`list C F`) or the record (`record`).
+//!
+//! STEPS says how far that goes: `held` writes the text of rows where they lie; `copied` copies the rows out first, which share
+//! their texts; `answered` also copies the text into a buffer, behind the head of an answer; and `handed` also hands that on. At
+//! the end it prints the last text, unless that was handed on.
+use serde::{Deserialize, Deserializer, Serialize};
+use std::borrow::Cow;
 use std::collections::BTreeSet;
-use std::env;
-use std::io::{self, Read, Write};
+use std::fs::File;
+use std::io::{self, BufRead, BufWriter, Write};
+use std::os::fd::AsFd;
+use std::rc::Rc;
+
+type Outcome<T> = Result<T, Box<dyn std::error::Error>>;
+
+/// How much is gathered before it is handed on, as ours does.
+const ROOM: usize = 8_192;
 
 #[derive(Clone, Copy, PartialEq, Serialize, Deserialize)]
 #[serde(rename_all = "lowercase")]
@@ -15,7 +27,12 @@ enum State {
     Settled,
 }
 
-#[derive(Deserialize)]
+/// A text that copies of a row share.
+fn shared<'de, D: Deserializer<'de>>(text: D) -> Result<Rc<str>, D::Error> {
+    Ok(String::deserialize(text)?.into())
+}
+
+#[derive(Clone, Deserialize)]
 struct Item {
     buy_now: Option<u64>,
     category: u64,
@@ -25,14 +42,17 @@ struct Item {
     end: u64,
     item: u64,
     leader: Option<u64>,
-    lot: String,
+    #[serde(deserialize_with = "shared")]
+    lot: Rc<str>,
     met: Option<bool>,
     price: u64,
     seller: u64,
     start: u64,
     state: State,
-    text: String,
-    title: String,
+    #[serde(deserialize_with = "shared")]
+    text: Rc<str>,
+    #[serde(deserialize_with = "shared")]
+    title: Rc<str>,
 }
 
 // Keys in byte order.
@@ -101,6 +121,9 @@ struct Question {
 
 #[derive(Deserialize)]
 struct House {
+    /// The number of each item after that of its category.
+    #[serde(skip)]
+    by_category: BTreeSet<(u64, u64)>,
     bands: Vec<Band>,
     categories: Vec<Category>,
     clock: u64,
@@ -166,14 +189,24 @@ impl House {
         }
     }
 
-    fn record(&self) -> Record<'_> {
+    /// The items of a category from a number on, at most fifty, as they lie.
+    fn listed(&self, category: u64, from: u64) -> impl Iterator<Item = &Item> {
+        let keys = self.by_category.range((category, from)..=(category, u64::MAX)).take(50);
+        keys.map(|key| &self.items[key.1 as usize - 1])
+    }
+
+    fn list<'a>(&self, items: impl Iterator<Item = &'a Item>) -> List<'a> {
+        List { items: items.map(|item| self.page(item)).collect() }
+    }
+
+    fn record<'a>(&'a self, items: &'a [Item]) -> Record<'a> {
         Record {
             bands: &self.bands,
             categories: &self.categories,
             clock: self.clock,
             editions: &self.editions,
             feedback: &self.feedback,
-            items: self.items.iter().map(|item| self.page(item)).collect(),
+            items: items.iter().map(|item| self.page(item)).collect(),
             members: &self.members,
             questions: &self.questions,
             rate: self.rate,
@@ -182,32 +215,115 @@ impl House {
     }
 }
 
-fn listed<'a>(house: &'a House, by_category: &BTreeSet<(u64, u64)>, category: u64, from: u64) -> List<'a> {
-    let keys = by_category.range((category, from)..=(category, u64::MAX)).take(50);
-    List { items: keys.map(|key| house.page(&house.items[key.1 as usize - 1])).collect() }
+/// What is made.
+#[derive(Clone, Copy)]
+enum What {
+    Item(u64),
+    List(u64, u64),
+    Record,
 }
 
-fn main() -> Result<(), Box<dyn std::error::Error>> {
-    let words: Vec<String> = env::args().skip(1).collect();
-    let rounds: u64 = words[1].parse()?;
-    let numbers = words[2..].iter().map(|word| word.parse()).collect::<Result<Vec<u64>, _>>()?;
-    let mut text = Vec::new();
-    io::stdin().read_to_end(&mut text)?;
-    let house: House = serde_json::from_slice(&text)?;
-    let by_category: BTreeSet<_> = house.items.iter().map(|item| (item.category, item.item)).collect();
-    let mut out = Vec::new();
-    for _ in 0..rounds {
-        out.clear();
-        match words[0].as_str() {
-            "item" => serde_json::to_writer(&mut out, &house.page(&house.items[numbers[0] as usize - 1]))?,
-            "list" => serde_json::to_writer(&mut out, &listed(&house, &by_category, numbers[0], numbers[1]))?,
-            // Of a record each text has a buffer of its own, which grows.
-            _ => {
-                out = Vec::new();
-                serde_json::to_writer(&mut out, &house.record())?
+/// How far that goes.
+#[derive(Clone, Copy, PartialEq, PartialOrd)]
+enum Steps {
+    Held,
+    Copied,
+    Answered,
+    Handed,
+}
+
+/// How often what is made, and how far that goes.
+fn order(line: &str) -> Outcome<(u64, Steps, What)> {
+    let words: Vec<&str> = line.split(' ').collect();
+    let steps = match words[1] {
+        "held" => Steps::Held,
+        "copied" => Steps::Copied,
+        "answered" => Steps::Answered,
+        "handed" => Steps::Handed,
+        other => return Err(other.into()),
+    };
+    let what = match words[2..] {
+        ["item", number] => What::Item(number.parse()?),
+        ["list", category, from] => What::List(category.parse()?, from.parse()?),
+        ["record"] => What::Record,
+        _ => return Err(line.into()),
+    };
+    Ok((words[0].parse()?, steps, what))
+}
+
+/// Makes pages in buffers that it keeps.
+struct Maker {
+    house: House,
+    text: Vec<u8>,
+    answer: Vec<u8>,
+    output: BufWriter<File>,
+}
+
+impl Maker {
+    /// Makes a text, of copies of the rows or of the rows as they lie.
+    fn write(&mut self, what: What, copies: bool) -> Outcome<()> {
+        let house = &self.house;
+        self.text.clear();
+        match what {
+            What::Item(number) => {
+                let item = &house.items[number as usize - 1];
+                let item = if copies { Cow::Owned(item.clone()) } else { Cow::Borrowed(item) };
+                serde_json::to_writer(&mut self.text, &house.page(&item))?;
+            }
+            What::List(category, from) if copies => {
+                let items: Vec<Item> = house.listed(category, from).cloned().collect();
+                serde_json::to_writer(&mut self.text, &house.list(items.iter()))?;
+            }
+            What::List(category, from) => {
+                serde_json::to_writer(&mut self.text, &house.list(house.listed(category, from)))?;
+            }
+            What::Record => {
+                // Of a record each text has a buffer of its own, which grows.
+                self.text = Vec::new();
+                let items = if copies { Cow::Owned(house.items.clone()) } else { Cow::Borrowed(&house.items) };
+                serde_json::to_writer(&mut self.text, &house.record(&items))?;
             }
         }
+        Ok(())
     }
-    io::stdout().write_all(&out)?;
+
+    /// Copies the text into an answer.
+    fn reply(&mut self) -> io::Result<()> {
+        self.answer.clear();
+        let length = self.text.len();
+        write!(self.answer, "HTTP/1.1 200 OK\r\ncontent-type: application/json\r\ncontent-length: {length}\r\n\r\n")?;
+        self.answer.write_all(&self.text)
+    }
+
+    fn make(&mut self, steps: Steps, what: What) -> Outcome<()> {
+        self.write(what, steps >= Steps::Copied)?;
+        if steps >= Steps::Answered {
+            self.reply()?;
+        }
+        if steps == Steps::Handed {
+            self.output.write_all(&self.answer)?;
+            self.text.clear();
+        }
+        Ok(())
+    }
+}
+
+fn main() -> Outcome<()> {
+    let mut input = io::stdin().lock();
+    let mut record = Vec::new();
+    input.read_until(b'\n', &mut record)?;
+    let mut house: House = serde_json::from_slice(&record)?;
+    house.by_category = house.items.iter().map(|item| (item.category, item.item)).collect();
+    let output = BufWriter::with_capacity(ROOM, File::from(io::stdout().as_fd().try_clone_to_owned()?));
+    let mut maker = Maker { house, text: Vec::new(), answer: Vec::new(), output };
+    for line in input.lines() {
+        let (count, steps, what) = order(&line?)?;
+        for _ in 0..count {
+            maker.make(steps, what)?;
+        }
+        maker.output.flush()?;
+    }
+    maker.output.write_all(&maker.text)?;
+    maker.output.flush()?;
     Ok(())
 }

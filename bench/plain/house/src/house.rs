@@ -4,6 +4,7 @@ use crate::wire::Request;
 use serde::Serialize;
 use serde_json::Value;
 use std::borrow::Cow;
+use std::ops::Deref;
 
 pub type Kept<T> = Result<T, Box<dyn std::error::Error>>;
 
@@ -31,14 +32,19 @@ pub enum State {
     Unsold,
 }
 
+/// What holds a text of a row.
+pub trait Text: Clone + Deref<Target = str> + for<'a> From<&'a str> {}
+
+impl<T: Clone + Deref<Target = str> + for<'a> From<&'a str>> Text for T {}
+
 #[derive(Clone)]
-pub struct Item {
+pub struct Item<T> {
     pub number: u64,
     pub seller: u64,
     pub category: u64,
-    pub lot: String,
-    pub title: String,
-    pub text: String,
+    pub lot: T,
+    pub title: T,
+    pub text: T,
     pub start: u64,
     pub buy_now: Option<u64>,
     pub end: u64,
@@ -103,6 +109,8 @@ pub struct Category {
 
 /// Reads, and one write per accepted command (a bid's carries the standing after it).
 pub trait Tables {
+    type Text: Text;
+
     fn begin(&mut self) -> Kept<()> {
         Ok(())
     }
@@ -116,13 +124,13 @@ pub trait Tables {
     fn has_member(&self, name: &str) -> Kept<bool>;
     fn has_category(&self, name: &str) -> Kept<bool>;
     fn has_lot(&self, seller: u64, lot: &str) -> Kept<bool>;
-    fn item(&self, number: u64) -> Kept<Option<Cow<'_, Item>>>;
+    fn item(&self, number: u64) -> Kept<Option<Cow<'_, Item<Self::Text>>>>;
     fn all_categories(&self) -> Kept<Vec<Category>>;
-    fn items_in(&self, category: u64, from: u64) -> Kept<Vec<Cow<'_, Item>>>;
+    fn items_in(&self, category: u64, from: u64) -> Kept<Vec<Cow<'_, Item<Self::Text>>>>;
     fn bids_of(&self, member: u64, from: u64) -> Kept<Vec<Mine>>;
     fn register(&mut self, moment: u64, name: &str) -> Kept<u64>;
     fn add_category(&mut self, moment: u64, name: &str) -> Kept<u64>;
-    fn list(&mut self, moment: u64, item: Item) -> Kept<()>;
+    fn list(&mut self, moment: u64, item: Item<Self::Text>) -> Kept<()>;
     fn bid(
         &mut self,
         moment: u64,
@@ -426,7 +434,7 @@ impl<T: Tables> House<T> {
         }
     }
 
-    fn page<'a>(&self, item: &'a Item) -> ItemPage<'a> {
+    fn page<'a>(&self, item: &'a Item<T::Text>) -> ItemPage<'a> {
         ItemPage {
             buy_now: item.buy_now,
             category: item.category,

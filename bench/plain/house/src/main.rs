@@ -3,7 +3,8 @@
 //!
 //! It registers members, adds categories, lists items, takes bids and purchases, and closes. It shows
 //! an item, the categories, the items of one, and the caller's bids; any other path is answered 404.
-//! It has one band table and no reserves.
+//! It has one band table and no reserves. With `--copies` its look-ups in memory hand out copies of
+//! rows, as ours do, and not the rows as they lie.
 
 mod house;
 mod memory;
@@ -11,10 +12,12 @@ mod sqlite;
 mod wire;
 
 use house::{House, Item, Kept, Standing, State, Tables};
+use memory::{Lying, Memory};
 use std::io::{self, Write};
 use std::net::TcpListener;
+use std::rc::Rc;
 
-const USAGE: &str = "house replay [--preset] | serve FILE --port P --count N";
+const USAGE: &str = "house replay [--preset] [--copies] | serve FILE --port P --count N";
 
 /// The house that `auction replay --preset` begins with.
 fn preset(tables: &mut impl Tables) -> Kept<()> {
@@ -47,6 +50,17 @@ fn preset(tables: &mut impl Tables) -> Kept<()> {
     )
 }
 
+/// Answers standard input.
+fn replay<T: Lying + Default>(has_preset: bool) -> Kept<()> {
+    let mut tables = Memory::<T>::default();
+    if has_preset {
+        preset(&mut tables)?;
+    }
+    let mut house = House::new(tables);
+    let (mut input, mut output) = (io::stdin().lock(), io::stdout().lock());
+    Ok(wire::serve(&mut input, &mut output, &mut house, u64::MAX)?)
+}
+
 fn main() -> Kept<()> {
     let words: Vec<String> = std::env::args().skip(1).collect();
     let words: Vec<&str> = words.iter().map(String::as_str).collect();
@@ -59,16 +73,12 @@ fn main() -> Kept<()> {
     };
     match words[..] {
         ["replay", ref rest @ ..] => {
-            let mut tables = memory::Memory::default();
-            if rest.contains(&"--preset") {
-                preset(&mut tables)?;
+            let has_preset = rest.contains(&"--preset");
+            if rest.contains(&"--copies") {
+                replay::<Rc<str>>(has_preset)?;
+            } else {
+                replay::<String>(has_preset)?;
             }
-            wire::serve(
-                &mut io::stdin().lock(),
-                &mut io::stdout().lock(),
-                &mut House::new(tables),
-                u64::MAX,
-            )?;
         }
         ["serve", file, ..] => {
             let port: u16 = option("--port").ok_or(USAGE)?.parse()?;

@@ -3,14 +3,34 @@
 use crate::house::*;
 use std::borrow::Cow;
 use std::collections::{BTreeMap, BTreeSet, HashMap, HashSet};
+use std::rc::Rc;
+
+/// How a row lies in memory, by what holds its texts, and how a look-up hands it out.
+pub trait Lying: Text {
+    fn found(item: &Item<Self>) -> Cow<'_, Item<Self>>;
+}
+
+/// A row that holds its texts is lent.
+impl Lying for String {
+    fn found(item: &Item<String>) -> Cow<'_, Item<String>> {
+        Cow::Borrowed(item)
+    }
+}
+
+/// A row that shares its texts is copied, as ours are.
+impl Lying for Rc<str> {
+    fn found(item: &Item<Rc<str>>) -> Cow<'_, Item<Rc<str>>> {
+        Cow::Owned(item.clone())
+    }
+}
 
 #[derive(Default)]
-pub struct Memory {
+pub struct Memory<T> {
     clock: u64,
     members: HashSet<String>,
     categories: Vec<String>,
     category_names: HashSet<String>,
-    items: Vec<Item>,
+    items: Vec<Item<T>>,
     lots: HashMap<u64, HashSet<String>>,
     in_category: BTreeSet<(u64, u64)>,
     /// Open items by end.
@@ -21,13 +41,15 @@ pub struct Memory {
     best: BTreeMap<(u64, u64), (u64, u64)>,
 }
 
-impl Memory {
-    fn row(&mut self, number: u64) -> &mut Item {
+impl<T> Memory<T> {
+    fn row(&mut self, number: u64) -> &mut Item<T> {
         &mut self.items[number as usize - 1]
     }
 }
 
-impl Tables for Memory {
+impl<T: Lying> Tables for Memory<T> {
+    type Text = T;
+
     fn clock(&self) -> Kept<u64> {
         Ok(self.clock)
     }
@@ -52,11 +74,11 @@ impl Tables for Memory {
             .get(&seller)
             .is_some_and(|lots| lots.contains(lot)))
     }
-    fn item(&self, number: u64) -> Kept<Option<Cow<'_, Item>>> {
+    fn item(&self, number: u64) -> Kept<Option<Cow<'_, Item<T>>>> {
         Ok(self
             .items
             .get((number as usize).wrapping_sub(1))
-            .map(Cow::Borrowed))
+            .map(T::found))
     }
     fn all_categories(&self) -> Kept<Vec<Category>> {
         let category = |(n, name): (usize, &String)| Category {
@@ -65,13 +87,13 @@ impl Tables for Memory {
         };
         Ok(self.categories.iter().enumerate().map(category).collect())
     }
-    fn items_in(&self, category: u64, from: u64) -> Kept<Vec<Cow<'_, Item>>> {
+    fn items_in(&self, category: u64, from: u64) -> Kept<Vec<Cow<'_, Item<T>>>> {
         let keys = self
             .in_category
             .range((category, from)..=(category, u64::MAX));
         Ok(keys
             .take(PAGE)
-            .map(|key| Cow::Borrowed(&self.items[key.1 as usize - 1]))
+            .map(|key| T::found(&self.items[key.1 as usize - 1]))
             .collect())
     }
     fn bids_of(&self, member: u64, from: u64) -> Kept<Vec<Mine>> {
@@ -103,12 +125,12 @@ impl Tables for Memory {
         self.categories.push(name.into());
         Ok(self.categories.len() as u64)
     }
-    fn list(&mut self, moment: u64, item: Item) -> Kept<()> {
+    fn list(&mut self, moment: u64, item: Item<T>) -> Kept<()> {
         self.clock = moment;
         self.lots
             .entry(item.seller)
             .or_default()
-            .insert(item.lot.clone());
+            .insert(item.lot.to_string());
         self.in_category.insert((item.category, item.number));
         self.open.insert((item.end, item.number));
         self.items.push(item);

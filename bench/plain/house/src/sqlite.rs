@@ -78,7 +78,7 @@ fn state(number: u64) -> State {
     }
 }
 
-fn item(row: &Row) -> rusqlite::Result<Cow<'static, Item>> {
+fn item(row: &Row) -> rusqlite::Result<Cow<'static, Item<String>>> {
     Ok(Cow::Owned(Item {
         number: row.get(0)?,
         seller: row.get(1)?,
@@ -102,6 +102,8 @@ fn item(row: &Row) -> rusqlite::Result<Cow<'static, Item>> {
 }
 
 impl Tables for Sqlite {
+    type Text = String;
+
     fn begin(&mut self) -> Kept<()> {
         self.run("begin immediate", [])?;
         Ok(())
@@ -134,7 +136,7 @@ impl Tables for Sqlite {
             params![seller, lot],
         )
     }
-    fn item(&self, number: u64) -> Kept<Option<Cow<'_, Item>>> {
+    fn item(&self, number: u64) -> Kept<Option<Cow<'_, Item<String>>>> {
         let sql = format!("{ITEM} where id = ?");
         Ok(self
             .0
@@ -150,7 +152,7 @@ impl Tables for Sqlite {
             })
         })
     }
-    fn items_in(&self, category: u64, from: u64) -> Kept<Vec<Cow<'_, Item>>> {
+    fn items_in(&self, category: u64, from: u64) -> Kept<Vec<Cow<'_, Item<String>>>> {
         let sql = format!("{ITEM} where category = ? and id >= ? order by id limit 50");
         self.list(&sql, [category, from], item)
     }
@@ -182,7 +184,7 @@ impl Tables for Sqlite {
         self.run("insert into category (name) values (?)", [name])?;
         Ok(self.0.last_insert_rowid() as u64)
     }
-    fn list(&mut self, moment: u64, item: Item) -> Kept<()> {
+    fn list(&mut self, moment: u64, item: Item<String>) -> Kept<()> {
         self.tick(moment)?;
         self.run(
             "insert into item values (?,?,?,?,?,?,?,?,?,0,null,?,null,null,null,0)",
