@@ -1,11 +1,16 @@
 """Instructions and processor time of runs of a program, and two programs side by side."""
+import array
 import contextlib
+import fcntl
 import pathlib
 import re
 import resource
+import signal
 import statistics
 import subprocess
 import tempfile
+import termios
+import time
 
 import published
 
@@ -16,6 +21,11 @@ LACKING = re.compile(rb'"edition":\d+,|"met":(?:null|true|false),|(?<=content-le
 
 # What was shown, for who writes a table of it: what, by whom so much, in which unit.
 FIGURES = []
+
+
+def paths(program, *plain):
+    """The programs that are compared, by whose they are."""
+    return {whose: str(pathlib.Path(path).resolve()) for whose, path in zip(("ours", "plain"), (program, *plain))}
 
 
 def counted(words, stream=b"", folder=None):
@@ -33,6 +43,90 @@ def seconds(words, stream=b""):
     output = subprocess.run(list(map(str, words)), input=stream, stdout=subprocess.PIPE, check=True).stdout
     after = resource.getrusage(resource.RUSAGE_CHILDREN)
     return after.ru_utime + after.ru_stime - before.ru_utime - before.ru_stime, output
+
+
+def seconds_of(process):
+    """The processor time that a running process has taken."""
+    return int(pathlib.Path(f"/proc/{process.pid}/schedstat").read_text().split()[0]) / 1e9
+
+
+def unread(pipe):
+    """How many bytes of a pipe nobody has read."""
+    count = array.array("i", [0])
+    fcntl.ioctl(pipe, termios.FIONREAD, count)
+    return count[0]
+
+
+class Running:
+    """A run of a program that reads its input as it comes. Its output goes to nobody, or into a pipe that `cat` reads."""
+
+    def __init__(self, words, into_pipe=False):
+        output = subprocess.PIPE if into_pipe else subprocess.DEVNULL
+        self.process = subprocess.Popen(list(map(str, words)), stdin=subprocess.PIPE, stdout=output)
+        self.reader = subprocess.Popen(["cat"], stdin=self.process.stdout, stdout=subprocess.DEVNULL) if into_pipe else None
+
+    def is_asleep(self):
+        state = pathlib.Path(f"/proc/{self.process.pid}/stat").read_text().rpartition(")")[2].split()[0]
+        if state == "Z":
+            raise ChildProcessError(f"{self.process.args[0]} ends early")
+        return state == "S"
+
+    def unwritten(self):
+        """How much of its output nobody has read."""
+        return unread(self.process.stdout) if self.reader else 0
+
+    def send(self, stream):
+        """Sends it a stream. Gives the processor time that it takes until it waits for more."""
+        before = seconds_of(self.process)
+        self.process.stdin.write(stream)
+        self.process.stdin.flush()
+        while not self.is_asleep() or unread(self.process.stdin) or self.unwritten():
+            time.sleep(0.001)
+        return seconds_of(self.process) - before
+
+    def send_last(self, stream=b""):
+        """Sends it the last of its input, while `cat` stands still. Gives the processor time that it takes until it has more to write
+        than a pipe holds, and ends it there."""
+        self.reader.send_signal(signal.SIGSTOP)
+        before = seconds_of(self.process)
+        self.process.stdin.write(stream)
+        self.process.stdin.close()
+        while not self.is_asleep() or not self.unwritten():
+            time.sleep(0.001)
+        spent = seconds_of(self.process) - before
+        self.process.kill()
+        self.reader.kill()
+        self.close()
+        return spent
+
+    def end(self):
+        """Ends its input, and waits for its end."""
+        self.process.stdin.close()
+        self.close()
+        if self.process.returncode != 0:
+            raise ChildProcessError(f"{self.process.args[0]} fails")
+
+    def close(self):
+        self.process.wait()
+        if self.reader:
+            self.process.stdout.close()
+            self.reader.wait()
+
+
+def timed(words, before, things, into_pipe=False):
+    """The processor time of one of each thing that a program is sent: by name a stream, and of how many it is. All go through one
+    run, after what sets it up, so that nothing is taken off which differs from run to run."""
+    run = Running(words, into_pipe)
+    run.send(before)
+    found = {name: run.send(stream) / count for name, (stream, count) in things.items()}
+    run.end()
+    return found
+
+
+def by_thing(found):
+    """What was found of each thing round by round, by name and program, of what each program's rounds found of all things."""
+    names = dict.fromkeys(name for rounds in found.values() for name in rounds[0])
+    return {name: {who: [one[name] for one in rounds] for who, rounds in found.items() if name in rounds[0]} for name in names}
 
 
 def without_lacking(text):

@@ -81,9 +81,10 @@ def runs(ours, plain):
     kind = pages.kinds(LARGE)["list of fifty"]
     yield f"a list out of {LARGE} items", {
         whose: pages.asked(program, large, kind, LISTS) for whose, program in (("ours", ours), ("plain", plain))}
-    words = pages.kinds(SMALL)["list of fifty"].words
-    yield "the text of a list", {
-        "ours": text_of_list(ours, small), "plain": pages.by_plain(words, pages.record_of(ours, small), LISTS)}
+    what, record = pages.kinds(SMALL)["list of fifty"].what, pages.record_of(ours, small)
+    text = text_of_list(ours, small)
+    for steps, name in (("held", "the text of a list"), ("handed", "the text of a list by the same steps")):
+        yield name, {"ours": text, "plain": pages.by_plain(steps, what, record, LISTS)}
     yield f"the record of {LARGE} items", {
         "ours": pages.with_record(ours, large), "plain": pages.record_by_plain(pages.record_of(ours, large))}
 

@@ -5,8 +5,8 @@ in plain Rust that takes the same words, `replay --preset`, and is sent the same
 the difference of two streams that begin alike and of which one has more of that kind, by the number that it has more,
 under valgrind's callgrind, which counts whatever else the machine does. Of a stream of bids and a mixed one, which
 `workload.py` makes, it counts the instructions of a message and tells messages a second: the median of some runs of both
-programs in turn by processor time, less that of the messages that set the house up. Their answers are compared. It needs
-`valgrind`.
+programs in turn, by the processor time that each takes from the end of the messages that set the house up. Their answers are
+compared. It needs `valgrind`.
 """
 import pathlib
 import subprocess
@@ -15,7 +15,7 @@ import sys
 sys.path.insert(0, str(pathlib.Path(__file__).resolve().parent.parent / "tests"))
 import workload  # noqa: E402
 from lib.sent import answers_in, command, compact, read  # noqa: E402
-from measured import counted, in_turn, seconds, shown, shown_rounds, without_lacking  # noqa: E402
+from measured import counted, in_turn, paths, shown, shown_rounds, timed, without_lacking  # noqa: E402
 
 MORE = 1_000
 # By stream, of how many messages times are shown and instructions are counted.
@@ -93,24 +93,51 @@ def kinds(programs):
         shown(kind, more(programs, few, many, MORE), "instructions")
 
 
-def streams(programs):
-    for kind, (timed, tallied) in STREAMS.items():
-        before, messages = workload.made(kind, tallied)
-        first, whole = b"".join(before), b"".join(before + messages)
-        answered(programs, whole)
-        shown(f"{kind}, a message", more(programs, first, whole, tallied), "instructions")
-        before, messages = workload.made(kind, timed)
-        first, whole = b"".join(before), b"".join(before + messages)
-        answered(programs, whole)
-        found = in_turn(programs, lambda program: seconds([program, *WORDS], whole)[0] - seconds([program, *WORDS], first)[0])
-        shown_rounds(kind, {name: [timed / time for time in times] for name, times in found.items()}, "messages a second")
+def stream(programs, kind, count):
+    """The messages that set a house up, and those of a stream; all answer them alike."""
+    before, messages = workload.made(kind, count)
+    answered(programs, b"".join(before + messages))
+    return b"".join(before), b"".join(messages)
 
 
-def main(program, *plain):
-    names = dict(zip(("ours", "plain"), (program, *plain)))
-    programs = {name: str(pathlib.Path(path).resolve()) for name, path in names.items()}
+def words_of(programs):
+    """The words of each program, and those by which plain Rust copies rows out, as ours does."""
+    words = {who: [program, *WORDS] for who, program in programs.items()}
+    return words | ({"copies": [programs["plain"], *WORDS, "--copies"]} if "plain" in programs else {})
+
+
+def show_stream(kind, found, unit):
+    """What was found of a stream, by whose it is."""
+    copies = found.pop("copies", None)
+    shown_rounds(kind, found, unit)
+    if copies:
+        shown_rounds(f"{kind} by the same steps", {"ours": found["ours"], "plain": copies}, unit)
+
+
+def counts(programs):
     kinds(programs)
-    streams(programs)
+    for kind, (_, count) in STREAMS.items():
+        before, messages = stream(programs, kind, count)
+        show_stream(f"{kind}, a message", {who: [(counted(words, before + messages) - counted(words, before)) / count]
+                                           for who, words in words_of(programs).items()}, "instructions")
+
+
+def times(programs):
+    for kind, (count, _) in STREAMS.items():
+        before, messages = stream(programs, kind, count)
+
+        def a_second(words, into_pipe=False):
+            return 1 / timed(words, before, {kind: (messages, count)}, into_pipe)[kind]
+
+        every = words_of(programs)
+        show_stream(kind, in_turn(every, a_second), "messages a second")
+        every.pop("copies", None)
+        shown_rounds(f"{kind} into a pipe", in_turn(every, lambda words: a_second(words, True)), "messages a second")
+
+
+def main(*programs):
+    counts(paths(*programs))
+    times(paths(*programs))
 
 
 if __name__ == "__main__":

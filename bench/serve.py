@@ -26,7 +26,7 @@ sys.path.insert(0, str(ROOT / "tests"))
 import workload  # noqa: E402
 from lib.sent import command, compact, read  # noqa: E402
 from lib.serving import PRESET, Program  # noqa: E402
-from measured import in_turn, shown_rounds, without_lacking  # noqa: E402
+from measured import in_turn, paths, seconds_of, shown_rounds, without_lacking  # noqa: E402
 
 RUNS, BIDS, READS, MIXED = 5, 2_000, 9_999, 9_999
 # How many messages one connection may send.
@@ -38,11 +38,6 @@ SETTINGS = ["--bands", ROOT / "examples" / "bands.csv", "--rate", "1000", "--zon
 
 def bid(place):
     return command("/items/1/bids", 2 + place % 2, 1_001, compact({"maximum": 100_000 + 10_000 * place})).text()
-
-
-def seconds_of(process):
-    """The processor time that a running process has taken."""
-    return int(pathlib.Path(f"/proc/{process.pid}/schedstat").read_text().split()[0]) / 1e9
 
 
 def most_held(process):
@@ -188,12 +183,11 @@ def columns(found):
     return {name: [list(column) for column in zip(*runs)] for name, runs in found.items()}
 
 
-def main(path, *plain):
+def times(programs):
     """Shows all figures; gives how many commits of a row a second Python's `sqlite3` made on the same disk."""
     with tempfile.TemporaryDirectory() as name:
         folder = pathlib.Path(name)
-        programs = {name: Program(str(pathlib.Path(path).resolve()), folder)
-                    for name, path in zip(("ours", "plain"), (path, *plain))}
+        programs = {name: Program(path, folder) for name, path in programs.items()}
         found = served(programs)
         for place, (what, unit, digits) in enumerate((
                 ("bids, each in its turn", "a second", 0), ("the server's time of one", "us", 1),
@@ -207,6 +201,10 @@ def main(path, *plain):
             for place, (what, unit) in enumerate((("to listening", "ms"), ("its processor time", "ms"), ("memory", "MB"))):
                 shown_rounds(f"{items} items, {what}", {name: figures[place] for name, figures in found.items()}, unit, 1)
     return made
+
+
+def main(*programs):
+    times(paths(*programs))
 
 
 if __name__ == "__main__":

@@ -8,14 +8,11 @@ start take in each. What a compiler has put into another function counts as that
 machine.
 """
 import collections
-import contextlib
 import pathlib
 import re
-import signal
 import subprocess
 import sys
 import tempfile
-import time
 
 import samples
 import serve
@@ -32,28 +29,11 @@ def kind_of(symbol):
     return next((kind for kind, names in KINDS.items() if names.search(symbol)), samples.REST)
 
 
-def perf(data):
-    return ["perf", "record", "--quiet", "--event=cpu-clock", f"--freq={samples.SAMPLES}", f"--output={data}"]
-
-
-@contextlib.contextmanager
-def watched(server, data):
-    """Looks which functions of a server run, as long as this goes on."""
-    watch = subprocess.Popen([*perf(data), f"--pid={server.process.pid}"], stdout=subprocess.DEVNULL, stderr=subprocess.DEVNULL)
-    # perf doesn't tell when it has begun.
-    time.sleep(0.5)
-    try:
-        yield
-    finally:
-        watch.send_signal(signal.SIGINT)
-        watch.wait()
-
-
 def bids(program, data):
     serve.new_file("ours", program, "house")
     with program.serving("house", 2, 600) as server:
         serve.exchanged(server.port, PRESET)
-        with watched(server, data):
+        with samples.watched(server.process, data):
             serve.bid_in_turn(server)
 
 
@@ -62,7 +42,7 @@ def mixed(program, data):
     serve.new_file("ours", program, "house")
     with program.serving("house", 2, 600) as server:
         serve.exchanged(server.port, PRESET + before)
-        with watched(server, data):
+        with samples.watched(server.process, data):
             serve.exchanged(server.port, messages)
 
 
@@ -78,7 +58,7 @@ def make_large(program):
 def start(program, data):
     """A server ends after its first connection."""
     with held_port() as port:
-        process = subprocess.Popen([*perf(data), "--", program.path, "serve", "large", "--port", str(port), "--count", "1"],
+        process = subprocess.Popen([*samples.PERF, f"--output={data}", "--", program.path, "serve", "large", "--port", str(port), "--count", "1"],
                                    cwd=program.folder, stdout=subprocess.PIPE, stderr=subprocess.DEVNULL)
         process.stdout.readline()
         serve.connect(port).close()
