@@ -11,6 +11,8 @@ import pathlib
 import re
 import subprocess
 
+import ways
+
 FILE = pathlib.Path(__file__).with_name("figures.json")
 TABLE = pathlib.Path(__file__).with_name("TABLE.md")
 # Whose figures stand beside ours.
@@ -18,8 +20,8 @@ OTHERS = {"plain": "plain Rust", "kit": "the kit alone", "postgres": "PostgreSQL
 
 
 def commit():
-    """The commit that is measured."""
-    words = ["git", "rev-parse", "--short", "HEAD"]
+    """The commit that is measured: the last that changed a crate, wrong bodies aside."""
+    words = ["git", "log", "-1", "--format=%h", "--", ":/crates", ":(exclude,top)crates/*/wrong/*", ":(exclude,top)crates/*/must-fail/*"]
     return subprocess.run(words, cwd=FILE.parent, capture_output=True, text=True, check=True).stdout.strip()
 
 
@@ -84,12 +86,17 @@ def row(found):
 
 
 def table(run):
-    """The page that shows all figures of a run."""
+    """The page that shows all figures of a run, and what stands in the way of those that are under the goal."""
+    shown = shown_by_name({**read(), "table": run})
     lines = ["# Ours beside plain Rust", "", f"Commit `{run['commit']}`, {run['machine']}. On the disk of this run Python's `sqlite3` "
              f"made {number(run['commits'])} commits of a row a second.", "",
              "Ahead is how many times ours is ahead: over 1 it is better than plain Rust, under 1 worse. A time is the median of some "
-             "rounds of both in turn; the last column says how far ahead ours was in the worst round and in the best.", ""]
+             "rounds of both in turn; the last column says how far ahead ours was in the worst round and in the best. The goal is "
+             f"{ways.GOAL} times ahead. Under each table stands what is in the way of those lines that don't show it.", ""]
     for title, figures in run["parts"].items():
         lines += [f"## {title}", "", "| What | Unit | Ours | Plain Rust | Ahead | From round to round |", "|---|---|---|---|---|---|",
                   *map(row, figures), ""]
+        ahead = {f"{found['what']}, {found['unit']}": times_ahead(found, found["unit"]) for found in figures}
+        behind = ways.ways_of(ahead, shown)
+        lines += [f"In the way of {ways.GOAL} stands:", "", *behind, ""] if behind else []
     return "\n".join(lines)
