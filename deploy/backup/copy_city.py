@@ -27,6 +27,22 @@ DAY = len("2026-01-01")
 BEGUN = "begun"
 
 
+@contextlib.contextmanager
+def held(file):
+    """A name by which a file or a folder is read. It fails for a link, also for one that was put there just now."""
+    handle = os.open(file, os.O_RDONLY | os.O_NOFOLLOW)
+    try:
+        yield pathlib.Path(f"/proc/self/fd/{handle}")
+    finally:
+        os.close(handle)
+
+
+def refuse_link(file):
+    """The owner of the folder may have put a link there, and a restore would give that user what it leads to."""
+    if file.is_symlink():
+        raise Unsound(f"{file} is a link")
+
+
 def copy_accounts(source, target):
     """Copies a file of SQLite, which others may write meanwhile. Where nobody has it open, it has no log."""
     mode = "mode=ro" if log_of(source).exists() else "mode=ro&immutable=1"
@@ -38,10 +54,11 @@ def copy_accounts(source, target):
 
 def copy_file(source, target):
     """Copies a file with its rights and its owner, who has to exist where it is restored."""
-    shutil.copy2(source, target)
-    if os.geteuid() == 0:
-        status = source.stat()
-        os.chown(target, status.st_uid, status.st_gid)
+    with held(source) as file:
+        shutil.copy2(file, target)
+        if os.geteuid() == 0:
+            status = file.stat()
+            os.chown(target, status.st_uid, status.st_gid)
     keep(target)
 
 
@@ -57,12 +74,15 @@ def copy_files(source, target, names=None):
 def copy_gateway(root, city, copy):
     """Copies what the gateway has of a city. One that was set up by hand may lack accounts, or what the jobs write."""
     accounts, page = (root / "var" / "lib" / folder / city for folder in ("auction-sign-in", "auction-page"))
+    refuse_link(accounts / "accounts")
     if (accounts / "accounts").exists():
         copy_accounts(accounts / "accounts", copy / "accounts")
     copy_files(root / "etc" / "auction" / city, copy / "settings")
     if page.exists():
         copy_files(page, copy / "page", ("notices.json",))
-        copy_files(page / "addresses", copy / "page" / "addresses")
+        refuse_link(page / "addresses")
+        with held(page / "addresses") as addresses:
+            copy_files(addresses, copy / "page" / "addresses")
 
 
 def names(copies):

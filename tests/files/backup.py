@@ -7,10 +7,11 @@ file, sound for SQLite, with the rows of all that was answered before it was beg
 was done. What SQLite itself says of a served house is that it is locked, and that disturbs nobody. A copy is not restored over a
 house that is served; over one that isn't, or that is damaged, it is, and the program serves it; no link is followed meanwhile. What
 is no house of this version is neither copied nor restored, and a copy that finds no room leaves nothing behind. A city's copy has
-its house, its accounts and its settings, and old ones are dropped. A house that VACUUM has compacted is one. One that has lost a
-page is none, and the rows that SQLite reads are made one again, by the script and by `.recover`, where the command `sqlite3` has
-that. Where a superuser runs this, a restored house is its folder's owner's; and where btrfs-progs is there, snapshots of a file
-system of its own are copied too, also beside what a killed one has left. The last line is 'N checks, M wrong'.
+its house, its accounts and its settings, and old ones are dropped; none is made while a link lies in the place of accounts or
+addresses. A house that VACUUM has compacted is one. One that has lost a page is none, and the rows that SQLite reads are made one
+again, by the script and by `.recover`, where the command `sqlite3` has that. Where a superuser runs this, a restored house is its
+folder's owner's; and where btrfs-progs is there, snapshots of a file system of its own are copied too, also beside what a killed
+one has left. The last line is 'N checks, M wrong'.
 
 Promise: none
 """
@@ -256,12 +257,26 @@ def cities(program, folder):
     check("copied while nobody can sign in", script("copy_city.py", "lindow", root)[0], 0)
     check("its accounts then", logins(max(copies.iterdir())), [("ana",)])
     shutil.rmtree(max(copies.iterdir()))
+    linked_city(root)
+    check("what is left where links lie", list(copies.iterdir()), [copy])
     (copies / "begun").mkdir()
     (live / "house").write_text("damaged")
     status, said, error = script("copy_city.py", "lindow", root)
     check("a copy that fails", (status, said.startswith(f"the newest copy is {copy.name}"), error),
           (1, True, "copy_city.py: file is not a database"))
     check("what is left of it", list(copies.iterdir()), [copy])
+
+
+def linked_city(root):
+    """A city is not copied where a user other than root has put a link in the place of what it owns."""
+    for place in ("auction-sign-in/lindow/accounts", "auction-page/lindow/addresses"):
+        file = root / "var" / "lib" / place
+        behind = file.rename(root / "behind")
+        file.symlink_to(behind)
+        status, _, error = script("copy_city.py", "lindow", root)
+        check(f"{place} is a link", (status, error), (1, f"copy_city.py: {file} is a link"))
+        file.unlink()
+        behind.rename(file)
 
 
 ITEMS = 30
