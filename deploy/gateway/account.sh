@@ -173,8 +173,8 @@ case ${1-} in
 esac
 cd "$2" 2> /dev/null || fail "no folder $2"
 [ -e accounts ] || fail "no file accounts in $2: start.sh or setup.sh makes it"
-# One run at a time. SQLite locks the file by other means.
-exec 9< accounts
+# One run at a time.
+exec 9< .
 flock 9
 case $1 in
     add)

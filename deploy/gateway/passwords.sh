@@ -1,9 +1,18 @@
 # shellcheck shell=sh
 # What account.sh and change_password.sh do with passwords, in the folder of a house. Both read this file.
 
+# Runs a command as the owner of the folder in which accounts lies: that user may have put links there, and root would follow them.
+as_owner() {
+    if [ "$(id -u)" = 0 ]; then
+        runuser -u "$(stat -c %U "$(dirname "$(readlink accounts || echo accounts)")")" -- "$@"
+    else
+        "$@"
+    fi
+}
+
 # Does statements of SQL, of which the words in them are known to have no quotes, and prints rows.
 sql() {
-    printf '.timeout 20000\n%s\n' "$1" | sqlite3 -bail -separator ' ' accounts
+    printf '.timeout 20000\n%s\n' "$1" | as_owner sqlite3 -bail -separator ' ' accounts
 }
 
 # The hash of a password. bcrypt takes some 0.3 s of a processor, so that one who has the file guesses slowly.

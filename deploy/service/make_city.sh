@@ -48,11 +48,16 @@ make_files() {
     [ -e city.json ] || install -m 644 "$share/page/city.json" city.json
 }
 
+# Does statements of SQL as auction-sign-in, in whose folder accounts lies, and who may have put links there.
+sql() {
+    runuser -u auction-sign-in -- sqlite3 -bail "/var/lib/auction-sign-in/$city/accounts"
+}
+
 make_accounts() {
     command -v sqlite3 > /dev/null || fail "nobody can sign in to $city: install apache2-bin, apache2-utils and sqlite3, and run setup.sh"
     install -d -m 755 /var/lib/auction-sign-in
     install -d -o auction-sign-in -g auction-sign-in -m 700 "/var/lib/auction-sign-in/$city"
-    runuser -u auction-sign-in -- sqlite3 -bail "/var/lib/auction-sign-in/$city/accounts" < "$share/accounts.sql" > /dev/null
+    sql < "$share/accounts.sql" > /dev/null
     ln -sfn "/var/lib/auction-sign-in/$city/accounts" accounts
 }
 
@@ -72,7 +77,7 @@ statements_of_users() {
 }
 
 take_over_users() {
-    statements_of_users | sqlite3 -bail accounts
+    statements_of_users | sql
     mv users users.before
     mv members.map members.map.before
 }

@@ -6,7 +6,7 @@ clients show what the page of the gateway says:
 
 - who isn't signed in gets 401, and who is can't speak for another by any spelling of the two headers
 - members sign in by the form and out again, choose a password, and are kept out by account.sh; a run of it that was killed is
-  ended by the next; on a phone's width too, where chromedriver is there
+  ended by the next, and where a superuser runs it, it follows no link; on a phone's width too, where chromedriver is there
 - odd messages have each their status: two lengths, a length and a coding, chunks, HEAD, too large ones
 - of 242 hostile requests the house sees what a member meant, as its own and now, or nothing (parts/gateway_hostile.py)
 - pages of other sites bid for nobody; in Chromium too, where chromedriver is there
