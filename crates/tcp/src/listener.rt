@@ -16,6 +16,9 @@ const STILL: u64 = 30;
 // How many pieces are thrown away of what comes after the last reply.
 const PIECES: u32 = 60;
 
+/// A connection over TCP.
+pub type TcpConnection = Connection<Reading<Steady<TcpStream>>, Writing<Steady<TcpStream>>>;
+
 /// The connections of a listener. None of them says what its bytes are. Each that comes is counted,
 /// and the last of them closes the port.
 #[derive(Drop)]
@@ -61,7 +64,7 @@ impl Listener {
 
 // A connection that is given up where it is still, for reading and for writing. The last piece of its
 // replies is sent at once, and not held back until the one before is acknowledged (RFC 896).
-fn set_up(stream: &TcpStream) -> io::Result<Connection<Reading<Steady>, Writing<Steady>>> {
+fn set_up(stream: &TcpStream) -> io::Result<TcpConnection> {
     let still = Some(Duration::from_secs(STILL));
     stream.set_read_timeout(still)?;
     stream.set_write_timeout(still)?;
@@ -112,15 +115,15 @@ impl Listen for Listener {
 }
 
 impl Connections for Listener {
-    type Input = Reading<Steady>;
+    type Input = Reading<Steady<TcpStream>>;
 
-    type Output = Writing<Steady>;
+    type Output = Writing<Steady<TcpStream>>;
 
     ghost accepts = { λ old result new. Accepts old result new };
 
     ghost ends = { λ old _ _ new. IsAsOpen old new };
 
-    fn accept(&mut self) -> Result<Option<Connection<Reading<Steady>, Writing<Steady>>>, Failure> {
+    fn accept(&mut self) -> Result<Option<TcpConnection>, Failure> {
         let stream = self.next_stream()?;
         match set_up(&stream) {
             Ok(connection) => {
@@ -131,11 +134,7 @@ impl Connections for Listener {
         }
     }
 
-    fn end(
-        &mut self,
-        _connection: Connection<Reading<Steady>, Writing<Steady>>,
-        report: Result<Served, ServeFault>,
-    )
+    fn end(&mut self, _connection: TcpConnection, report: Result<Served, ServeFault>)
         ensures { IsAsOpen self.old self.new }
     {
         if let Some(stream) = self.stream.take()

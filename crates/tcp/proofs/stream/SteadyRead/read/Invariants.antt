@@ -1,0 +1,6 @@
+-- a call that was interrupted took nothing
+use Rattle.std.specs.Io.KnownBytes.{Keeps}
+use Rattle.tcp.proofs.stream.SteadyRead.read.Given as goal
+
+abbrev pub invariant-loop : goal.invariant-loop
+invariant-loop g l = Keeps (g.S.Read.remaining l.initial.self.stream) (g.S.Read.remaining l.self.stream)
