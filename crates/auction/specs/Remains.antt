@@ -3,11 +3,20 @@ use Rattle.std.specs.Prelude.{⊤, Option, Some, None}
 use Rattle.auction.specs.declared.remains.Remains.{Remains}
 use Rattle.auction.specs.declared.remains.Remains.TheVariants.{Unopened, Refused, Ended}
 
+-- what is left of a keep that was ended
+abbrev pub left_of : {R L : Type 0} → Remains R L → Option L
+left_of Unopened = None
+left_of (Refused rest) = None
+left_of (Ended left) = Some left
+
 -- a keep was ended, and this is so of what is left of it
+abbrev pub IsEndedWith : {L : Type 0} → (L → Type 0) → Option L → Type 0
+IsEndedWith P None = ⊥
+IsEndedWith P (Some left) = P left
+
+-- and that is what remains
 abbrev pub IsEndedAs : {R L : Type 0} → (L → Type 0) → Remains R L → Type 0
-IsEndedAs P Unopened = ⊥
-IsEndedAs P (Refused rest) = ⊥
-IsEndedAs P (Ended left) = P left
+IsEndedAs P remains = IsEndedWith P (left_of remains)
 
 -- this is so of what is left where the file was opened: the one where no keep was, and the other
 -- where one was

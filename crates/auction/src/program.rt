@@ -1,6 +1,7 @@
 //! The program's run: words in, an exit status out.
 ghost use Rattle.std.specs.Prelude.{◌≡◌, ◌≢◌, ◌≤◌, map, string_bytes};
-ghost use Rattle.auction.specs.Tasks.{HasNewHouse, IsDone, IsDoneAsAsked, IsLeftOf};
+ghost use Rattle.auction.specs.Remains.{left_of};
+ghost use Rattle.auction.specs.Tasks.{HasNewHouse, HasRun, IsDone, IsLeftOf};
 ghost use Rattle.auction_runs.specs.Served.{most_messages};
 ghost use Rattle.clap.specs.Values.{kind_of};
 ghost use Rattle.clap.specs.declared.error.kind.ErrorKind.TheVariants.{DisplayHelp, DisplayVersion};
@@ -20,7 +21,7 @@ use auction_runs::{TaskFault, finish_run};
 use auction_words::{Task, read_task};
 use clap::Error;
 use device::Writing;
-use house_rows::Ends;
+use house_rows::{Ends, Keep};
 use sqlite::{FileFrom, FileStore, Unknown};
 use std::alloc::Global;
 use std::env;
@@ -39,7 +40,7 @@ pub fn run(rt: &HostRuntime) -> u8
 {
     let alloc = rt.alloc();
     match words(rt, alloc) {
-        Ok(words) => start_at(rt, alloc, words.as_slice(), Unknown),
+        Ok(words) => start_at::<Unknown, Listener>(rt, alloc, words.as_slice(), Unknown),
         Err(error) => no_words(rt, error.kind()),
     }
 }
@@ -67,22 +68,44 @@ fn no_memory(rt: &HostRuntime) -> u8
     finish_run(&mut Writing::new(rt.stderr()), Err(TaskFault::Memory))
 }
 
-// The same, with houses in files that hold whatever `first` stands for.
-fn start_at<T: Place>(rt: &HostRuntime, alloc: Global, words: &[String], first: T) -> u8
-    ensures { result ≤ 2 }
+/// Does what the words ask for, with houses in files that hold whatever `first` stands for, and gives
+/// the exit status.
+pub fn start_at<T: Place, C: Listen>(
+    rt: &HostRuntime,
+    alloc: Global,
+    words: &[String],
+    first: T,
+) -> u8
+    ensures within { result ≤ 2 }
+    ensures done { result ≡ 0 → HasRun ⟦<SqlKeep<Renumbered<FileStore<FileFrom<T>>>> as Keep>⟧
+        ⟦<SqlKeep<Renumbered<FileStore<FileFrom<T>>>> as Ends>⟧.is_ended
+        ⟦<FileStore<FileFrom<T>> as StoreBelow>⟧.is_opened
+        ⟦<FileStore<FileFrom<T>> as StoreBelow>⟧.is_new
+        ⟦<FileStore<FileFrom<T>> as StoreBelow>⟧.is_upgraded ⟦<ListKeep as Keep>⟧.content
+        C.is_at C.Input.Source C.Output.Sink C.accepts C.ends (map string_bytes words.now) }
 {
-    start_on::<FileFrom<T>>(rt, alloc, words, first)
+    start_on::<FileFrom<T>, C>(rt, alloc, words, first)
 }
 
 // The same, with houses in the files of a disk.
-fn start_on<D: DiskInFile>(rt: &HostRuntime, alloc: Global, words: &[String], first: D::First) -> u8
-    ensures { result ≤ 2 }
+fn start_on<D: DiskInFile, C: Listen>(
+    rt: &HostRuntime,
+    alloc: Global,
+    words: &[String],
+    first: D::First,
+) -> u8
+    ensures within { result ≤ 2 }
+    ensures done { result ≡ 0 → HasRun ⟦<SqlKeep<Renumbered<FileStore<D>>> as Keep>⟧
+        ⟦<SqlKeep<Renumbered<FileStore<D>>> as Ends>⟧.is_ended
+        ⟦<FileStore<D> as StoreBelow>⟧.is_opened ⟦<FileStore<D> as StoreBelow>⟧.is_new
+        ⟦<FileStore<D> as StoreBelow>⟧.is_upgraded ⟦<ListKeep as Keep>⟧.content
+        C.is_at C.Input.Source C.Output.Sink C.accepts C.ends (map string_bytes words.now) }
 {
-    start_below::<FileStore<D>>(rt, alloc, words, first)
+    start_below::<FileStore<D>, C>(rt, alloc, words, first)
 }
 
 // The same, with houses that are shown in their order over a store in files.
-fn start_below<S: StoreBelow>(
+fn start_below<S: StoreBelow, C: Listen>(
     rt: &HostRuntime,
     alloc: Global,
     words: &[String],
@@ -90,27 +113,17 @@ fn start_below<S: StoreBelow>(
 ) -> u8
 where
     SqlKeep<Renumbered<S>>: Ends,
-    ensures { result ≤ 2 }
+    ensures within { result ≤ 2 }
+    ensures done { result ≡ 0 → HasRun ⟦<SqlKeep<Renumbered<S>> as Keep>⟧
+        ⟦<SqlKeep<Renumbered<S>> as Ends>⟧.is_ended S.is_opened S.is_new S.is_upgraded
+        ⟦<ListKeep as Keep>⟧.content
+        C.is_at C.Input.Source C.Output.Sink C.accepts C.ends (map string_bytes words.now) }
 {
-    start_by_tcp::<Renumbered<S>>(rt, alloc, words, first)
+    start::<Renumbered<S>, C>(rt, alloc, words, first)
 }
 
-// The same, with houses in the files of a store, served over TCP.
-fn start_by_tcp<S: StoreInFile>(
-    rt: &HostRuntime,
-    alloc: Global,
-    words: &[String],
-    first: S::First,
-) -> u8
-where
-    SqlKeep<S>: Ends,
-    ensures { result ≤ 2 }
-{
-    start::<S, Listener>(rt, alloc, words, first)
-}
-
-// Does what the words ask for, with houses in the files of a store. Here alone the keeps are named,
-// and that in a file over any store: what runs over any keep can't be called of it by its full name.
+// The same, with houses in the files of a store. Here alone the keeps are named, and that in a file
+// over any store: what runs over any keep can't be called of it by its full name.
 fn start<S: StoreInFile, C: Listen>(
     rt: &HostRuntime,
     alloc: Global,
@@ -119,12 +132,15 @@ fn start<S: StoreInFile, C: Listen>(
 ) -> u8
 where
     SqlKeep<S>: Ends,
-    ensures { result ≤ 2 }
+    ensures within { result ≤ 2 }
+    ensures done { result ≡ 0 → HasRun ⟦<SqlKeep<S> as Keep>⟧ ⟦<SqlKeep<S> as Ends>⟧.is_ended
+        S.is_opened S.is_new S.is_upgraded ⟦<ListKeep as Keep>⟧.content
+        C.is_at C.Input.Source C.Output.Sink C.accepts C.ends (map string_bytes words.now) }
 {
     start_over::<SqlKeep<S>, ListKeep, C>(rt, alloc, words, first)
 }
 
-// Does what the words ask for, over keeps in files and in memory, and closes the file.
+// The same, over keeps in files and in memory. It closes the file.
 fn start_over<F: KeepInFile, M: KeepInMemory, C: Listen>(
     rt: &HostRuntime,
     alloc: Global,
@@ -132,10 +148,9 @@ fn start_over<F: KeepInFile, M: KeepInMemory, C: Listen>(
     first: F::First,
 ) -> u8
     ensures within { result ≤ 2 }
-    ensures done { result ≡ 0 → IsDoneAsAsked {R = F.Rest} {L = F.Left} (λ task remains.
-        IsDone F.Keep C.is_at F.is_ended F.is_opened F.is_new F.is_upgraded
-        (λ zone. Takes F.Keep C.Input.Source C.Output.Sink C.accepts C.ends zone most_messages)
-        task remains × HasNewHouse M.content task) (map string_bytes words.now) }
+    ensures done { result ≡ 0 → HasRun F.Keep F.is_ended F.is_opened F.is_new F.is_upgraded
+        M.content C.is_at C.Input.Source C.Output.Sink C.accepts C.ends
+        (map string_bytes words.now) }
 {
     match read_task(alloc, words) {
         Ok(Some(task)) => {
@@ -158,7 +173,7 @@ fn do_task<F: KeepInFile, M: KeepInMemory, C: Listen>(
     ensures done { result.0 ≡ 0 → IsDone F.Keep C.is_at F.is_ended F.is_opened F.is_new
         F.is_upgraded
         (λ zone. Takes F.Keep C.Input.Source C.Output.Sink C.accepts C.ends zone most_messages)
-        task.now result.1 }
+        task.now (left_of result.1) }
     ensures made { result.0 ≡ 0 → HasNewHouse M.content task.now }
     ensures left { IsLeftOf F.Keep C.is_at F.is_ended F.is_left F.is_opened F.is_new
         F.is_upgraded F.is_held F.is_made F.is_grown
